@@ -1,0 +1,4 @@
+pub mod Places
+pub mod Met
+pub mod Kept
+pub mod Start

@@ -1,0 +1,12 @@
+pub mod Names
+pub mod Formula
+pub mod FormulaLaws
+pub mod Reading
+pub mod Checks
+pub mod Effects
+pub mod Sound
+pub mod Step
+pub mod Listing
+pub mod Unkept
+pub mod Book
+pub mod Demand
