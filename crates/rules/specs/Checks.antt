@@ -6,7 +6,7 @@ use lib.ListN.{getD}
 use Rattle.session.specs.Table.{Session, pick}
 use Rattle.session.specs.declared.Field.the-variants.{Objects, Links, Dropped, Kind, TemplateState, TemplateCount, TaskState, TaskCreator, TaskSlots, TaskFinish, TaskOutput, EventState, EventType, EventPayload, EventTally, BlockState, BlockCreator, BlockHeld, SlotMode, SlotMark, SlotPayload, LinkSource, LinkTarget, LinkSlot, LinkState}
 use Rattle.rules.specs.Formula.{Formula, test, not, _iff_, choose, count, Formula._≐_, Formula._≼_, Formula._and_, Formula._or_, Formula._then_, Formula.never, Formula.each, Formula.some}
-use Rattle.rules.specs.Names.{template, task, event, block, resolved, granted, running, ended, ready, held, blockDestroyed, modeRW}
+use Rattle.session.specs.Names.{template, task, event, block, resolved, granted, running, ended, ready, held, blockDestroyed, modeRW}
 use Rattle.rules.specs.Reading.{at, made, isKind, isUserEvent, isRunning, isGone, hasSlot, holdsBlock, overflows, isFiredSticky, conflict}
 
 -- a check: its number, and what the operation must meet

@@ -1,4 +1,3 @@
-pub mod Names
 pub mod Formula
 pub mod FormulaLaws
 pub mod Reading

@@ -5,7 +5,7 @@ use Rattle.session.specs.Table.{read}
 use Rattle.session.specs.declared.Field.the-variants.{Objects, Kind, TaskState}
 use Rattle.rules.specs.Formula.{test, Formula._≐_, Formula._and_}
 use Rattle.rules.specs.FormulaLaws.{fails, test-and}
-use Rattle.rules.specs.Names.{task, running}
+use Rattle.session.specs.Names.{task, running}
 use Rattle.rules.specs.Reading.{made, isKind}
 use borrow.Author.Needs.{needs}
 use Rattle.rules.proofs.is_running.Statement.{statement}
