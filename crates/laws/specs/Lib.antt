@@ -1,4 +1,12 @@
 pub mod Places
 pub mod Met
 pub mod Kept
+pub mod SlotPlaces
+pub mod Marks
+pub mod Moving
 pub mod Start
+pub mod LettingGo
+pub mod Release
+pub mod DestroyBlock
+pub mod Grant
+pub mod Holding

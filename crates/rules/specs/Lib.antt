@@ -1,10 +1,14 @@
 pub mod Formula
 pub mod FormulaLaws
 pub mod Reading
+pub mod Arity
+pub mod Conflicts
 pub mod Checks
 pub mod Effects
 pub mod Sound
 pub mod Step
+pub mod Answer
+pub mod Edges
 pub mod Listing
 pub mod Unkept
 pub mod Book
