@@ -14,11 +14,11 @@ use Rattle.rules.specs.Checks.{grantChecks, slotFree}
 use Rattle.rules.specs.Effects.{grant}
 use Rattle.rules.specs.Sound.{kept, objects, slots, states, state, full, blocks, compatible, unused, outputs}
 use Rattle.laws.specs.Kept.{Rest, rest-of, outputs-of, kept-from}
-use Rattle.laws.specs.Marks.{Marking, few-slots, payload-slot, marked-roots, marked-noSlot, marked-slots, marked-settled, marked-full, marked-was-full}
+use Rattle.laws.specs.Marks.{Marking, payload-slot, marked-roots, marked-noSlot, marked-slots, marked-settled, marked-full, marked-was-full}
 use Rattle.laws.specs.Met.{met}
 use Rattle.laws.specs.Moving.{move, Moved, after-move, still, move-creators, move-outputs, move-taskPart, move-objects, Moved.state-stays, Moved.state-moves}
 use Rattle.laws.specs.Places.{put-here}
-use Rattle.laws.specs.SlotPlaces.{at-div, place-split, place-low}
+use Rattle.laws.specs.SlotPlaces.{at-div, place-split, place-low, few-slots}
 
 pub conflict-sym : (a b : ℕ) → holds (conflict a b) → holds (conflict b a)
 conflict-sym a b (inl x) = inr (inl (x .1, x .0))

@@ -13,9 +13,8 @@ use Rattle.rules.specs.Reading.{at, made, isKind, isGone, isHeld}
 use Rattle.rules.specs.Checks.{orNull, remains, slotFree, grantChecks, startChecks, endChecks, deliverChecks}
 use Rattle.rules.specs.Sound.{isPayload, kept, slots, slot, unclaimed, claimed, blockPart, taskPart}
 use Rattle.laws.specs.Kept.{Rest, rest-of}
-use Rattle.laws.specs.Marks.{few-slots}
 use Rattle.laws.specs.Met.{met}
-use Rattle.laws.specs.SlotPlaces.{place-split, place-low, place-owner}
+use Rattle.laws.specs.SlotPlaces.{place-split, place-low, place-owner, few-slots}
 
 -- a task is gone only when it has ended, a block only when it is doomed or destroyed
 pub task-gone : (s : Session) (h : ℕ) → s Kind h ≡ task → holds (isGone s h) → ended ≤ s TaskState h

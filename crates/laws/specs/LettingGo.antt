@@ -15,8 +15,8 @@ use Rattle.rules.specs.Reading.{at, isHeld, isRunning}
 use Rattle.rules.specs.Effects.{letGo, buryDoomed}
 use Rattle.rules.specs.Sound.{kept, counts, objects, roots, creators, outputs, slots, links, oneLink, states, blocks, compatible, latches, dropped, unused, settled, blockPart}
 use Rattle.laws.specs.Kept.{Rest, rest-of, outputs-of, kept-from}
-use Rattle.laws.specs.SlotPlaces.{at-div}
-use Rattle.laws.specs.Marks.{Marking, few-slots, marked-roots, marked-noSlot, marked-slots, marked-settled, marked-full, marked-was-full}
+use Rattle.laws.specs.SlotPlaces.{at-div, few-slots}
+use Rattle.laws.specs.Marks.{Marking, marked-roots, marked-noSlot, marked-slots, marked-settled, marked-full, marked-was-full}
 
 -- a slot's mark after
 pub data MarkAfter (s : Session) (t : ℕ) (which : ℕ → Formula) (i : ℕ) : Type 0 where

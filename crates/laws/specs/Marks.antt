@@ -9,15 +9,8 @@ use Rattle.session.specs.declared.Field.the-variants.{Objects, Kind, TaskState,
 use Rattle.rules.specs.Formula.{holds}
 use Rattle.session.specs.Names.{task, held, taskDestroyed}
 use Rattle.rules.specs.Reading.{at}
-use Rattle.rules.specs.Sound.{objects, roots, slots, slot, settled, unclaimed, claimed, noSlot, taskPart, full}
-
--- a task has 16 slots at the most
-pub few-slots : (s : Session) → holds (objects s) → (h : ℕ) → h < s Objects 0 + 1 → s TaskSlots h ≤ 16
-few-slots s o h l = go (o .1 h l .1 .1 .0)
-  where
-    go : holds (taskPart s h) → s TaskSlots h ≤ 16
-    go (inl x) = x .1 .1 .1 .0
-    go (inr x) = let z = x .1 .1 .1 .0 in omega arith
+use Rattle.rules.specs.Sound.{objects, roots, slots, slot, settled, unclaimed, claimed, noSlot, full}
+use Rattle.laws.specs.SlotPlaces.{few-slots}
 
 -- a slot that is not satisfied has no payload
 pub no-payload : (s : Session) → holds (slots s) → (h j : ℕ) → h < s Objects 0 + 1 → j < 16 → s SlotMark (at h j) ≡ 0 → s SlotPayload (at h j) ≡ 0
