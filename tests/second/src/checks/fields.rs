@@ -1,0 +1,113 @@
+//! Checks 7 to 11: what the fields by themselves must be.
+
+use crate::call::Call;
+use crate::object::{BlockState, EventType, Object, TaskState};
+use crate::session::Session;
+
+/// "7. A field with a range in its brackets is outside it."
+pub fn out_of_range(_: &Session, call: &Call) -> bool {
+    match *call {
+        Call::Template { count, .. } => count > 17,
+        Call::Task { count, finish, output, .. } => count > 17 || finish > 1 || output > 1,
+        Call::Event { kind, .. } => !(1..=4).contains(&kind),
+        Call::Block { hold, .. } => hold > 1,
+        Call::Dependence { mode, .. } => !(1..=4).contains(&mode),
+        _ => false,
+    }
+}
+
+/// "8. The caller is not a running task." One never made, or of another kind, is none (reading 3).
+pub fn caller_not_running(session: &Session, call: &Call) -> bool {
+    let running = |caller| session.task(caller).is_some_and(|task| task.state == TaskState::Running);
+    call.caller().is_some_and(|caller| !running(caller))
+}
+
+/// What a handle field admits.
+#[derive(Clone, Copy)]
+enum Admits {
+    Template,
+    Task,
+    Block,
+    /// Types 1 to 4.
+    Event,
+    /// "Source: 0, a block or an event."
+    Source,
+    /// "Destination: a task or an event of type 1 to 4."
+    Destination,
+    /// "template, task, event of type 1 to 4, or block"
+    Destroyable,
+}
+
+/// A handle field other than the caller.
+struct Named {
+    handle: u64,
+    null: bool,
+    admits: Admits,
+}
+
+fn needed(handle: u64, admits: Admits) -> Named {
+    Named { handle, null: false, admits }
+}
+
+fn or_null(handle: u64, admits: Admits) -> Named {
+    Named { handle, null: true, admits }
+}
+
+/// The handle fields, in order; a link number is no handle.
+fn named(call: &Call) -> Vec<Named> {
+    match *call {
+        Call::Template { .. } | Call::Event { .. } | Call::Block { .. } | Call::Deliver { .. } => vec![],
+        Call::Task { template, .. } => vec![needed(template, Admits::Template)],
+        Call::Dependence { source, destination, .. } => {
+            vec![or_null(source, Admits::Source), needed(destination, Admits::Destination)]
+        }
+        Call::Satisfy { event, block, .. } => vec![needed(event, Admits::Event), or_null(block, Admits::Block)],
+        Call::Release { block, .. } => vec![needed(block, Admits::Block)],
+        Call::Destroy { object, .. } => vec![needed(object, Admits::Destroyable)],
+        Call::Grant { task } | Call::Start { task } => vec![needed(task, Admits::Task)],
+        Call::End { task, block } => vec![needed(task, Admits::Task), or_null(block, Admits::Block)],
+    }
+}
+
+/// "9. A handle or link number was never made, or is 0 where null has no meaning."
+pub fn never_made(session: &Session, call: &Call) -> bool {
+    if let Call::Deliver { link } = *call {
+        return session.link(link).is_none();
+    }
+    named(call).iter().any(|field| session.object(field.handle).is_none() && !(field.null && field.handle == 0))
+}
+
+fn admitted(admits: Admits, object: &Object) -> bool {
+    let settable = matches!(object, Object::Event(event) if event.kind != EventType::Output);
+    match admits {
+        Admits::Template => matches!(object, Object::Template(_)),
+        Admits::Task => matches!(object, Object::Task(_)),
+        Admits::Block => matches!(object, Object::Block(_)),
+        Admits::Event => settable,
+        Admits::Source => matches!(object, Object::Block(_) | Object::Event(_)),
+        Admits::Destination => settable || matches!(object, Object::Task(_)),
+        Admits::Destroyable => settable || !matches!(object, Object::Event(_)),
+    }
+}
+
+/// "10. A handle names a wrong kind, or an event of a type not admitted."
+pub fn wrong_kind(session: &Session, call: &Call) -> bool {
+    let wrong = |field: &Named| session.object(field.handle).is_some_and(|object| !admitted(field.admits, object));
+    named(call).iter().any(wrong)
+}
+
+/// "11. An object named is gone: destroyed, ended, doomed (but for release), or a fired once, latch or output."
+pub fn gone(session: &Session, call: &Call) -> bool {
+    let release = matches!(call, Call::Release { .. });
+    named(call).iter().any(|field| match session.object(field.handle) {
+        None => false,
+        Some(Object::Template(template)) => template.destroyed,
+        Some(Object::Task(task)) => !task.is_live(),
+        Some(Object::Event(event)) => event.is_gone(),
+        Some(Object::Block(block)) => match block.state {
+            BlockState::Live => false,
+            BlockState::Doomed => !release,
+            BlockState::Destroyed => true,
+        },
+    })
+}

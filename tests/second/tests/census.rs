@@ -1,0 +1,130 @@
+//! What the generators bring up: enough accepted calls, every operation, every refusal, and the rarer turns.
+
+use second::sheets::random_sheet;
+use second::steer::{random_list, LATCH_CALLS};
+use second::{parse_sheet, Answer, BlockState, Ending, Event, EventState, EventType, Object, Operation, Session};
+
+#[derive(Default)]
+struct Census {
+    calls: u64,
+    accepted: [u64; 13],
+    refused: [u64; 22],
+}
+
+impl Census {
+    fn count(&mut self, operation: &Operation, answer: Answer) {
+        self.calls += 1;
+        match answer.refused {
+            0 => self.accepted[operation.code as usize] += 1,
+            number => self.refused[number as usize] += 1,
+        }
+    }
+
+    fn check(&self, refusals: &[usize]) {
+        let accepted: u64 = self.accepted.iter().sum();
+        println!("calls {} accepted {accepted} {:?} refused {:?}", self.calls, self.accepted, self.refused);
+        assert!(2 * accepted >= self.calls, "{accepted} of {}", self.calls);
+        for code in 1..=12 {
+            assert!(self.accepted[code] > 0, "operation {code} was never accepted");
+        }
+        for number in refusals {
+            assert!(self.refused[*number] > 0, "refusal {number} never came up");
+        }
+    }
+}
+
+/// A sheet has no room for the 32,767 satisfactions before refusal 19; nor does it ever meet 1 or 2.
+#[test]
+fn sheets() {
+    let mut census = Census::default();
+    for (seed, index) in (1..=2).flat_map(|seed| (0..64).map(move |index| (seed, index))) {
+        let sheet = random_sheet(seed, index);
+        assert!(sheet.len() <= 32_768);
+        let (operations, ending) = parse_sheet(&sheet);
+        let mut session = Session::fresh();
+        for operation in &operations {
+            census.count(operation, session.apply(operation));
+        }
+        if let Ending::Refused { refused, .. } = ending {
+            census.calls += 1;
+            census.refused[refused as usize] += 1;
+        }
+    }
+    census.check(&[3, 4, 5, 6, 7, 8, 9, 10, 11, 12, 13, 14, 15, 16, 17, 18, 20, 21]);
+}
+
+#[test]
+fn lists_of_single_calls() {
+    let mut census = Census::default();
+    let lengths = [(0, LATCH_CALLS + 2_000), (4, LATCH_CALLS + 2_000), (5, 3_000), (7, 6_000)];
+    for (seed, calls) in lengths.into_iter().chain((20..40).map(|seed| (seed, 1_500))) {
+        let mut list = random_list(seed, calls);
+        for _ in 0..calls {
+            let (operation, answer) = list.next_call();
+            census.count(&operation, answer);
+        }
+    }
+    census.check(&[6, 7, 8, 9, 10, 11, 12, 13, 14, 15, 16, 17, 18, 19, 20, 21]);
+}
+
+/// Turns of a session that show in no answer.
+#[derive(Default, Debug)]
+struct Turns {
+    dropped: u64,
+    lost_late: u64,
+    doomed: u64,
+    cut: u64,
+    latches: u64,
+    finish_by_other: u64,
+    finish_by_destroy: u64,
+    several: u64,
+}
+
+fn fired(session: &Session, kind: EventType) -> u64 {
+    let fired = |event: &Event| event.kind == kind && event.state == EventState::Fired;
+    session.objects.iter().filter(|object| matches!(object, Object::Event(event) if fired(event))).count() as u64
+}
+
+fn blocks(session: &Session, state: BlockState) -> u64 {
+    session.objects.iter().filter(|object| matches!(object, Object::Block(block) if block.state == state)).count()
+        as u64
+}
+
+impl Turns {
+    fn count(&mut self, before: &Session, operation: &Operation, after: &Session) {
+        let outputs = fired(after, EventType::Output) - fired(before, EventType::Output);
+        let own = operation.code == 12 && {
+            let output = before.task(operation.fields[0]).map_or(0, |task| task.output);
+            after.event(output).is_some_and(|event| event.state == EventState::Fired)
+        };
+        let lost = blocks(after, BlockState::Destroyed) > blocks(before, BlockState::Destroyed);
+        self.dropped += after.dropped - before.dropped;
+        self.doomed += u64::from(blocks(after, BlockState::Doomed) > blocks(before, BlockState::Doomed));
+        self.lost_late += u64::from(lost && operation.code != 8);
+        self.cut += u64::from(operation.code == 8 && after.undelivered_links() < before.undelivered_links());
+        self.latches += fired(after, EventType::Latch) - fired(before, EventType::Latch);
+        self.finish_by_other += u64::from(operation.code == 12 && outputs > u64::from(own));
+        self.finish_by_destroy += u64::from(operation.code == 8 && outputs > 0);
+        self.several += u64::from(outputs > 1);
+    }
+}
+
+#[test]
+fn rarer_turns() {
+    let mut turns = Turns::default();
+    for seed in 100..150 {
+        let mut list = random_list(seed, 800);
+        for _ in 0..800 {
+            let before = list.session.clone();
+            let (operation, answer) = list.next_call();
+            if answer.refused == 0 {
+                turns.count(&before, &operation, &list.session);
+            }
+        }
+    }
+    println!("{turns:?}");
+    let Turns { dropped, lost_late, doomed, cut, latches, finish_by_other, finish_by_destroy, several } = turns;
+    for count in [dropped, lost_late, doomed, cut, latches, finish_by_other, finish_by_destroy, several] {
+        assert!(count > 0, "one of the turns never came up");
+    }
+}
