@@ -18,7 +18,8 @@ use Rattle.laws.specs.Met.{met}
 use Rattle.laws.specs.Kept.{Rest, rest-of, outputs-of, kept-from}
 use Rattle.laws.specs.SlotPlaces.{task-slot, low-slot}
 use Rattle.laws.specs.Apart.{whole}
-use Rattle.laws.specs.FillSlot.{Vacant, task-waits, fill-rest, fill-outputs}
+use Rattle.laws.specs.Standing.{waits}
+use Rattle.laws.specs.FillSlot.{Vacant, fill-rest, fill-outputs}
 use Rattle.laws.specs.MarkLink.{handed, mark-apart, mark-dropped-more}
 use Rattle.laws.specs.SatisfyEvent.{satisfyEvent-keeps}
 
@@ -128,7 +129,7 @@ module _ (s : Session) (l : ℕ) (low : 1 ≤ l) (high : l ≤ s Links 0) (was :
           is-made = target-made;
           is-task = k;
           is-slot = is-slot;
-          is-waiting = task-waits s (s LinkTarget l) (s LinkSlot l) r target-made k remains is-slot empty;
+          is-waiting = waits s (s LinkTarget l) (s LinkSlot l) (r .objects) (r .states) target-made k remains is-slot empty;
           has-mode = is-claimed .0;
           has-range = is-claimed .1 .0;
           empty = empty;

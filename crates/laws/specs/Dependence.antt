@@ -18,7 +18,8 @@ use Rattle.laws.specs.Kept.{Rest, rest-of, outputs-of, kept-from}
 use Rattle.laws.specs.SlotPlaces.{task-slot, low-slot}
 use Rattle.laws.specs.Apart.{apart}
 use Rattle.laws.specs.Claim.{is-unclaimed, claim-apart}
-use Rattle.laws.specs.FillSlot.{Vacant, task-waits, fill-rest, fill-outputs}
+use Rattle.laws.specs.Standing.{waits}
+use Rattle.laws.specs.FillSlot.{Vacant, fill-rest, fill-outputs}
 use Rattle.laws.specs.NewLink.{Linkable, Spot, newLink-rest, new-outputs, Spot.of-task, Spot.of-event}
 use Rattle.laws.specs.SatisfyEvent.{satisfyEvent-keeps}
 
@@ -186,7 +187,7 @@ module _ (s : Session) (source d j mode : ℕ) (q : Asked s source d j mode) (r 
           is-made = q .target-made;
           is-task = k;
           is-slot = is-slot;
-          is-waiting = task-waits s d j r (q .target-made) k (q .target-remains) is-slot (x .1 .0);
+          is-waiting = waits s d j (r .objects) (r .states) (q .target-made) k (q .target-remains) is-slot (x .1 .0);
           has-mode = rw mode-here (q .mode-low);
           has-range = rw mode-here (q .mode-high);
           empty = x .1 .0;

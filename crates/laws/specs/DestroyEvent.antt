@@ -13,6 +13,7 @@ use Rattle.rules.specs.Reading.{made, isKind, isUserEvent}
 use Rattle.rules.specs.Effects.{destroyEvent}
 use Rattle.rules.specs.Sound.{eventPart, outputOf, outputs, kept}
 use Rattle.laws.specs.Places.{Places, places, put-here, put-there, Places.one, Places.two}
+use Rattle.laws.specs.Standing.{event-of}
 use Rattle.laws.specs.Kept.{Rest, rest-of, outputs-of, kept-from}
 use Rattle.laws.specs.Renewing.{Renewal, renewed, hadFired, agrees, renewed-rest}
 
@@ -70,17 +71,6 @@ was-delivered s e l d = go (link-after s e l)
     go : LinkAfter s e l → s LinkState l ≡ delivered
     go (cut-now p o q) = absurd (no (sym q ∙ d))
     go (as-was n q) = sym q ∙ d
-
--- an event's state is 1 to 4
-pub event-state : (s : Session) → Rest s → (e : ℕ) → holds (made s e) → holds (isKind s event e) → (1 ≤ s EventState e) × (s EventState e ≤ destroyedFired)
-event-state s r e is kind = go (r .objects .1 e below .1 .1 .1 .0)
-  where
-    below : e < s Objects 0 + 1
-    below = let l = is .1 in omega arith
-
-    go : holds (eventPart s e) → (1 ≤ s EventState e) × (s EventState e ≤ destroyedFired)
-    go (inl x) = (x .1 .0, x .1 .1 .0)
-    go (inr x) = absurd (x .0 kind)
 
 -- what stands in each field is what a renewal of the same states leaves
 same-rest : (s : Session) (e : ℕ) → Rest (renewed s (destroyEvent s e EventState) (s EventPayload) (destroyEvent s e LinkState)) → Rest (destroyEvent s e)
@@ -211,5 +201,5 @@ module _ (s : Session) (e : ℕ) (kind : holds (isKind s event e)) (low : 1 ≤ 
 pub destroyEvent-keeps : (s : Session) (e : ℕ) → holds (made s e) → holds (isUserEvent s e) → s EventState e ≤ fired → holds (kept s) → holds (kept (destroyEvent s e))
 destroyEvent-keeps s e is user was k =
     let r = rest-of s k in
-    let low = event-state s r e is (user .0) .0 in
+    let low = event-of s e (r .objects) is (user .0) .0 in
     kept-from (destroyEvent s e) (destroyEvent-rest s e (user .0) low was r) (keeps-outputs s e (user .0) low was (user .1) (outputs-of s k))

@@ -391,16 +391,3 @@ fill-rest s t j p a v =
       unused = fill-unused s t j p v o (a .unused);
       settled = fill-settled s t j p v o (a .settled);
     }
-
--- a task that is not gone and has an unsatisfied slot waits
-pub task-waits : (s : Session) (t j : ℕ) → Rest s → holds (made s t) → s Kind t ≡ task → (holds (isGone s t) → ⊥) → j < s TaskSlots t → s SlotMark (at t j) ≡ 0
-    → s TaskState t ≡ waiting
-task-waits s t j r m k remains l z = go (decide (ended ≼ s TaskState t)) (decide (resolved ≼ s TaskState t)) (r .objects .1 t (omega arith) .1 .1 .0)
-  where
-    go : Case (ended ≼ s TaskState t) → Case (resolved ≼ s TaskState t) → holds (taskPart s t) → s TaskState t ≡ waiting
-    go c b (inr x) = absurd (x .0 k)
-    go (it-does c) b (inl x) = absurd (remains (inr (inl (k, c))))
-    go (it-does-not c) (it-does b) (inl x) =
-        let f : 1 ≤ s SlotMark (at t j) = r .states t (omega arith) k .1 .0 (b, omega arith) j l in
-        absurd (omega arith)
-    go (it-does-not c) (it-does-not b) (inl x) = omega arith

@@ -11,12 +11,13 @@ use Rattle.rules.specs.Reading.{made, isKind, busy}
 use Rattle.rules.specs.Sound.{outputs, outputOf, taskPart}
 use Rattle.laws.specs.Places.{Places, places, put-here, Places.one, Places.two}
 use Rattle.laws.specs.Kept.{Rest}
-use Rattle.laws.specs.DestroyEvent.{event-state}
+use Rattle.laws.specs.Standing
+use Rattle.laws.specs.Standing.{event-of}
 use Rattle.laws.specs.Moving.{move, Moved, after-move, Moved.state-stays, Moved.state-moves}
 use Rattle.laws.specs.Retiring.{Retires, retire-busy}
 use Rattle.laws.specs.Finishing.{late, lateOf, lateOutputs, falls-late}
 
--- the output event of a live task is open
+-- the output event of a live task is there, and open
 pub record OpenOutput (s : Session) (t : ℕ) : Type 0 where
   pub exists : holds (made s (t + 1))
   pub kind : holds (isKind s event (t + 1))
@@ -24,27 +25,13 @@ pub record OpenOutput (s : Session) (t : ℕ) : Type 0 where
   pub state : s EventState (t + 1) ≡ eventOpen
 
 pub open-output : (s : Session) (t : ℕ) → Rest s → holds (outputs s) → holds (made s t) → holds (isKind s task t) → s TaskState t ≤ running → s TaskOutput t ≡ 1 → OpenOutput s t
-open-output s t r o m k live out = record { exists = x .0; kind = x .1 .0; type = x .1 .1 .0; state = is-open }
+open-output s t r o m k live out = record { exists = x .0; kind = x .1 .0; type = x .1 .1 .0; state = Standing.open-output s t (r .objects) o m k out live }
   where
     below : t < s Objects 0 + 1
     below = let l = m .1 in omega arith
 
     x : holds (outputOf s t)
     x = o t below .0 (k, out)
-
-    not-fired : s EventState (t + 1) ≡ fired → ⊥
-    not-fired f = let e = x .1 .1 .1 .0 .0 f .0 in omega arith
-
-    not-destroyed : s EventState (t + 1) ≡ destroyedUnfired → ⊥
-    not-destroyed d = let e = x .1 .1 .1 .1 .0 .0 d in omega arith
-
-    is-open : s EventState (t + 1) ≡ eventOpen
-    is-open =
-        let range = event-state s r (t + 1) (x .0) (x .1 .0) in
-        let lo = range .0 in
-        let hi = range .1 in
-        let last : s EventState (t + 1) ≡ destroyedFired → ⊥ = x .1 .1 .1 .1 .1 in
-        omega (arith, not-fired, not-destroyed)
 
 pub finish-mark : (s : Session) (t : ℕ) → Rest s → t < s Objects 0 + 1 → holds (isKind s task t) → s TaskFinish t ≤ 1
 finish-mark s t r l k = go (r .objects .1 t l .1 .1 .0)
@@ -62,7 +49,7 @@ module _ (s : Session) (t v : ℕ) (x : Retires s t v) (r : Rest s) (o : holds (
       go : Moved s t v i → holds (late e (move s t v TaskState i) (s TaskFinish i) (busy (move s t v) i))
       go (state-moves p _) = absurd (n p)
       go (state-stays st) =
-          let range = event-state s r (i + 1) (y .0) (y .1 .0) in
+          let range = event-of s (i + 1) (r .objects) (y .0) (y .1 .0) in
           rw (st, q) (falls-late (s EventState (i + 1)) (s TaskState i) (s TaskFinish i) (busy s i) (busy (move s t v) i) (range .0) (range .1) (finish-mark s i r l k) (retire-busy s t v x i) (y .1 .1 .1))
 
   -- the whole rule, if the states of the events but its own are as they were and its own is right

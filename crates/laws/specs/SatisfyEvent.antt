@@ -1,18 +1,19 @@
 -- An event that is satisfied: a latch counts and fires when it comes to 0, another fires if it has not. All rules are kept.
-use Prim.Native.Nat.{ℕ, zero, suc, _+_, _*_, _-_, _≤_, _<_}
-use mathlib.Core.Path.{_≡_, refl, ap, sym, subst, _∙_}
+use Prim.Native.Nat.{ℕ, _+_, _-_, _≤_}
+use mathlib.Core.Path.{_≡_, refl, sym, _∙_}
 use mathlib.Core.Logic.{_⊎_, inl, inr}
 use native.Mathlib.Omega.{arith}
-use Rattle.session.specs.Table.{Session, put, change}
-use Rattle.session.specs.declared.Field.the-variants.{Objects, Kind, EventState, EventType, EventPayload, EventTally}
-use Rattle.rules.specs.Formula.{Formula, holds, choose, Formula._≐_, Formula._≼_}
+use Rattle.session.specs.Table.{Session, put}
+use Rattle.session.specs.declared.Field.the-variants.{Kind, EventState, EventType, EventTally}
+use Rattle.rules.specs.Formula.{holds, choose, Formula._≐_}
 use Rattle.rules.specs.FormulaLaws.{Case, decide, choose-yes, choose-no, Case.it-does, Case.it-does-not}
-use Rattle.session.specs.Names.{task, event, eventOpen, fired, destroyedFired, once, latch, output, evenTally, topTally}
+use Rattle.session.specs.Names.{task, event, eventOpen, fired, destroyedFired, latch, output, evenTally, topTally}
 use Rattle.rules.specs.Reading.{made, isKind, isUserEvent, isGone, hasSlot, overflows}
-use Rattle.rules.specs.Effects.{fire, fireOne, tally, satisfyEvent}
+use Rattle.rules.specs.Effects.{fireOne, tally, satisfyEvent}
 use Rattle.rules.specs.Sound.{isPayload, eventPart, kept, objects, outputs, latches, unused}
 use Rattle.laws.specs.Places.{Places, places, Places.one, Places.two, put-here, put-there}
 use Rattle.laws.specs.Kept.{Rest, rest-of, outputs-of, kept-from}
+use Rattle.laws.specs.Standing.{event-of, open-unless, open-latch}
 use Rattle.laws.specs.Firing.{MayFire, fire-rest, fire-outputs-beside}
 
 -- one open event may fire
@@ -27,14 +28,6 @@ fireOne-rest s e p r m k o q t = fire-rest s (λ i. i ≐ e) (λ i. p) r may
 pub fireOne-outputs : (s : Session) (e p : ℕ) → (s EventType e ≡ output → ⊥) → holds (outputs s) → holds (outputs (fireOne s e p))
 unfolding fireOne
 fireOne-outputs s e p n o = fire-outputs-beside s (λ i. i ≐ e) (λ i. p) (λ i x. rw x n) o
-
--- what is known of a made event in a session
-pub event-of : (s : Session) (e : ℕ) → Rest s → holds (made s e) → s Kind e ≡ event → (1 ≤ s EventState e) × (s EventTally e ≤ topTally)
-event-of s e r m k = go (r .objects .1 e (omega arith) .1 .1 .1 .0)
-  where
-    go : holds (eventPart s e) → (1 ≤ s EventState e) × (s EventTally e ≤ topTally)
-    go (inl x) = (x .1 .0, x .1 .1 .1 .1 .1 .1 .1 .0)
-    go (inr x) = absurd (x .0 k)
 
 -- an open latch with another count
 module _ (s : Session) (e n : ℕ) (m : holds (made s e)) (kind : s Kind e ≡ event) (type : s EventType e ≡ latch) (open-yet : s EventState e ≡ eventOpen) (fits : n ≤ topTally) where
@@ -90,22 +83,10 @@ nextTally s e j = choose (j ≐ 0) (s EventTally e - 1) (s EventTally e + 1)
 abbrev pub counted : Session → ℕ → ℕ → Session
 counted s e j = put s EventTally e (nextTally s e j)
 
--- an event that is not gone and has not fired is open
-pub open-unless : (s : Session) (e : ℕ) → Rest s → holds (made s e) → s Kind e ≡ event → (holds (isGone s e) → ⊥) → (s EventState e ≡ fired → ⊥) → s EventState e ≡ eventOpen
-open-unless s e r m k there n = go (decide (3 ≼ s EventState e)) (event-of s e r m k .0)
-  where
-    go : Case (3 ≼ s EventState e) → 1 ≤ s EventState e → s EventState e ≡ eventOpen
-    go (it-does h) low = absurd (there (inr (inr (inl (k, inl h)))))
-    go (it-does-not h) low = omega arith
-
--- a latch that is not gone is open
-pub open-latch : (s : Session) (e : ℕ) → Rest s → holds (made s e) → s Kind e ≡ event → s EventType e ≡ latch → (holds (isGone s e) → ⊥) → s EventState e ≡ eventOpen
-open-latch s e r m k ty there = open-unless s e r m k there (λ f. there (inr (inr (inl (k, inr (f, inr (omega arith)))))))
-
--- its next count is in range
+-- the next count of a latch is in range
 next-fits : (s : Session) (e j : ℕ) → Rest s → holds (made s e) → s Kind e ≡ event → s EventType e ≡ latch
     → holds (hasSlot s e j) → (holds (overflows s e j) → ⊥) → nextTally s e j ≤ topTally
-next-fits s e j r m k ty slot n = go (decide (j ≐ 0)) slot (event-of s e r m k .1)
+next-fits s e j r m k ty slot n = go (decide (j ≐ 0)) slot (event-of s e (r .objects) m k .2)
   where
     other : task ≡ event → ⊥
     other q = omega arith
@@ -151,18 +132,18 @@ satisfyEvent-rest s e j p m user there slot n q r = go (event-satisfied s e j p)
   where
     counted-rest : s EventType e ≡ latch → Rest (counted s e j)
     counted-rest ty =
-        tally-rest s e (nextTally s e j) m (user .0) ty (open-latch s e r m (user .0) ty there) (next-fits s e j r m (user .0) ty slot n) r
+        tally-rest s e (nextTally s e j) m (user .0) ty (open-latch s e (r .objects) m (user .0) ty there) (next-fits s e j r m (user .0) ty slot n) r
 
     fires-rest : s EventType e ≡ latch → nextTally s e j ≡ evenTally → Rest (fireOne (counted s e j) e 0)
     fires-rest ty z =
-        fireOne-rest (counted s e j) e 0 (counted-rest ty) m (user .0) (open-latch s e r m (user .0) ty there)
+        fireOne-rest (counted s e j) e 0 (counted-rest ty) m (user .0) (open-latch s e (r .objects) m (user .0) ty there)
         (inl refl) (λ y. put-here s EventTally e e (nextTally s e j) refl ∙ z)
 
     go : EventSatisfied s e j p → Rest (satisfyEvent s e j p)
     go (latch-counts ty z x) = rw x (counted-rest ty)
     go (latch-fires ty z x) = rw x (fires-rest ty z)
     go (nothing-more ty f x) = rw x r
-    go (event-fires ty f x) = rw x (fireOne-rest s e p r m (user .0) (open-unless s e r m (user .0) there f) q (λ y. absurd (ty y)))
+    go (event-fires ty f x) = rw x (fireOne-rest s e p r m (user .0) (open-unless s e (r .objects) m (user .0) there f) q (λ y. absurd (ty y)))
 
 -- and so is that one
 pub satisfyEvent-outputs : (s : Session) (e j p : ℕ) → holds (isUserEvent s e) → holds (outputs s) → holds (outputs (satisfyEvent s e j p))

@@ -9,7 +9,5 @@ pub mod Sound
 pub mod Step
 pub mod Answer
 pub mod Edges
-pub mod Listing
-pub mod Unkept
 pub mod Book
 pub mod Demand
