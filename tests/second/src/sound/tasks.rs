@@ -27,18 +27,19 @@ fn creator_is_sound(session: &Session, handle: u64, task: &Task) -> bool {
 }
 
 /// "an output event follows its task, fired exactly if the task ended and, for finish, no descendant is live, destroyed
-/// exactly if the task is". The mark of a destroyed one is not looked at (reading 13 names links and latches alone).
+/// exactly if the task is". A destroyed task did not end, so its event has no mark that it had fired (reading 17).
 fn output_is_sound(session: &Session, handle: u64, task: &Task, below: bool) -> bool {
     if task.output == 0 {
         return true;
     }
     let Some(event) = session.event(task.output) else { return false };
     let fires = task.state == TaskState::Ended && !(task.finish && below);
-    let destroyed = matches!(event.state, EventState::Destroyed { .. });
+    let destroyed = event.state == EventState::Destroyed { had_fired: false };
     task.output == handle + 1
         && event.kind == EventType::Output
         && (event.state == EventState::Fired) == fires
         && destroyed == (task.state == TaskState::Destroyed)
+        && event.state != EventState::Destroyed { had_fired: true }
 }
 
 /// A slot by itself: "a task's unclaimed slot is unsatisfied"; a payload is 0 or a block, and 0 while unsatisfied
