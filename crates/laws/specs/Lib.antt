@@ -74,3 +74,4 @@ pub mod Prefixes
 pub mod FinishFires
 pub mod FiresFirst
 pub mod Demand
+pub mod OwnFields
