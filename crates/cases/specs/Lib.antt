@@ -1,1 +1,9 @@
+pub mod Along
 pub mod Listing
+pub mod Answers1
+pub mod Answers2
+pub mod Answers3
+pub mod SoundAlong1
+pub mod SoundAlong2
+pub mod DemandAlong1
+pub mod DemandAlong2

@@ -1,0 +1,17 @@
+use Rattle.checks.specs.TestLaws.{room-for}
+use borrow.Author.Needs.{needs}
+use native.Mathlib.Omega.{arith}
+use Rattle.checks.proofs.objects.has_room.Statement.{statement}
+use Rattle.checks.proofs.objects.has_room.Tie as tie
+
+get-requires : tie.Need-get-requires
+get-requires c κs = search needs
+
+sub-result : tie.Need-sub-result
+sub-result c = search needs
+
+returns : tie.Need-returns
+returns c = rw (c .get .ensures) (room-for _ _ _ (omega arith))
+
+pub has-room-spec : {M : Type 1} → statement M
+has-room-spec = tie.close (tie.spec get-requires sub-result returns)

@@ -1,0 +1,7 @@
+pub mod TestLaws
+pub mod RefusalLaws
+pub mod Gone
+pub mod CheckParts
+pub mod SoundParts
+pub mod Granting
+pub mod Scan

@@ -1,0 +1,59 @@
+-- What a sound session says of its counts, and of who holds blocks by slots.
+use Prim.Native.Nat.{ℕ, _+_, _/_, _%_, _≤_, _<_}
+use mathlib.Core.Path.{_≡_, subst}
+use mathlib.Core.Logic.{_⊎_, inl, inr}
+use native.Mathlib.Omega.{arith}
+use Rattle.session.specs.Table.{Session}
+use Rattle.session.specs.declared.Field.the-variants.{Objects, Links, Kind, TaskState, TaskSlots, SlotMark}
+use Rattle.session.specs.Names.{mostObjects, mostLinks, task, granted, running, held}
+use Rattle.rules.specs.Formula.{holds}
+use Rattle.rules.specs.Reading.{at, made}
+use Rattle.rules.specs.Checks.{orNull}
+use Rattle.rules.specs.Sound.{sound, soundUsed, counts, objects, slots, slot, states}
+use Rattle.laws.specs.SlotPlaces.{few-slots, place-split, place-low}
+
+pub sound-counts : (s : Session) → holds (sound s) → holds (counts s)
+unfolding sound soundUsed
+sound-counts s h = h .0 .0
+
+pub sound-objects : (s : Session) → holds (sound s) → holds (objects s)
+unfolding sound soundUsed
+sound-objects s h = h .0 .1 .0
+
+pub sound-slots : (s : Session) → holds (sound s) → holds (slots s)
+unfolding sound soundUsed
+sound-slots s h = h .0 .1 .1 .1 .1 .1 .0
+
+pub sound-states : (s : Session) → holds (sound s) → holds (states s)
+unfolding sound soundUsed
+sound-states s h = h .0 .1 .1 .1 .1 .1 .1 .1 .1 .0
+
+pub few-objects : (s : Session) → holds (sound s) → s Objects 0 ≤ mostObjects
+few-objects s h = sound-counts s h .1 .0
+
+pub few-links : (s : Session) → holds (sound s) → s Links 0 ≤ mostLinks
+few-links s h = sound-counts s h .1 .1
+
+-- a handle that was made, or is null, is a place of the fields
+pub made-low : (s : Session) → holds (sound s) → (h : ℕ) → holds (made s h) → h ≤ mostObjects
+made-low s o h m = let few = few-objects s o in omega arith
+
+pub or-null-low : (s : Session) → holds (sound s) → (h : ℕ) → holds (orNull s (made s) h) → h ≤ mostObjects
+or-null-low s o h (inl z) = omega arith
+or-null-low s o h (inr m) = made-low s o h m
+
+-- a task has at most 16 slots
+pub sound-few-slots : (s : Session) → holds (sound s) → (t : ℕ) → t ≤ s Objects 0 → s TaskSlots t ≤ 16
+sound-few-slots s h t l = few-slots s (sound-objects s h) t (omega arith)
+
+-- who holds a block by a slot is granted or running
+pub holder : (s : Session) → holds (sound s) → (t j : ℕ) → t ≤ s Objects 0 → j < 16 → s SlotMark (at t j) ≡ held → (s TaskState t ≡ granted) ⊎ (s TaskState t ≡ running)
+holder s h t j l m e = go (sound-slots s h t (omega arith) j m)
+  where
+    go : holds (slot s t j) → (s TaskState t ≡ granted) ⊎ (s TaskState t ≡ running)
+    go (inl x) = sound-states s h t (omega arith) (x .0) .1 .1 j (x .1 .0) .1 e .1
+    go (inr x) = let z = x .1 .1 .0 in absurd (omega arith)
+
+-- the same of a place of slots
+pub place-holder : (s : Session) → holds (sound s) → (k : ℕ) → k / 16 ≤ s Objects 0 → s SlotMark k ≡ held → (s TaskState (k / 16) ≡ granted) ⊎ (s TaskState (k / 16) ≡ running)
+place-holder s h k l e = holder s h (k / 16) (k % 16) l (place-low k) (subst (λ (i : ℕ). s SlotMark i ≡ held) (place-split k) e)

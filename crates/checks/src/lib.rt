@@ -1,0 +1,358 @@
+// For each operation, why it is turned down: the number of the first check that fails, 0 where none does. Internal: callers
+// have shown the length.
+ghost use mathlib.Core.Path.{_≡_};
+ghost use Prim.Native.Nat.{_≤_};
+ghost use lib.ListN.{length};
+ghost use Rattle.session.specs.Table.{read, words};
+ghost use Rattle.rules.specs.Formula.{holds};
+ghost use Rattle.rules.specs.Sound.{sound};
+ghost use Rattle.rules.specs.Checks.{refusal, templateChecks, taskChecks, eventChecks, blockChecks, dependenceChecks, satisfyChecks, releaseChecks, destroyChecks, deliverChecks, grantChecks, startChecks, endChecks};
+ghost use Rattle.checks.specs.CheckParts.{satisfyOrLinkChecks};
+
+pub mod fields;
+pub mod granting;
+pub mod holding;
+pub mod objects;
+
+use crate::fields::of;
+use crate::fields::state_of_link;
+use crate::granting::blocks_remain;
+use crate::granting::is_free;
+use crate::granting::task_at;
+use crate::holding::holds_block;
+use crate::objects::has_room;
+use crate::objects::has_slot;
+use crate::objects::is_block_or_null;
+use crate::objects::is_count;
+use crate::objects::is_destination;
+use crate::objects::is_destroyable;
+use crate::objects::is_fired_sticky;
+use crate::objects::is_gone;
+use crate::objects::is_idle;
+use crate::objects::is_kind;
+use crate::objects::is_made;
+use crate::objects::is_made_or_null;
+use crate::objects::is_running;
+use crate::objects::is_source;
+use crate::objects::is_unclaimed;
+use crate::objects::is_user_event;
+use crate::objects::overflows;
+use crate::objects::remains_or_null;
+use session::Field;
+use session::names;
+
+pub fn template_refusal(s: &[u64], caller: u64, n: u64) -> u64
+    requires { ⌜ words ≤ length (now s) ⌝ }
+    ensures { λ r. ⌜ r ≡ refusal (templateChecks (read (now (s .entry))) caller n) ⌝ }
+{
+    if names::UNKNOWN_COUNT < n {
+        return 7;
+    }
+    if !is_running(s, caller) {
+        return 8;
+    }
+    if !has_room(s, 1) {
+        return 20;
+    }
+    0
+}
+
+pub fn task_refusal(s: &[u64], caller: u64, template: u64, n: u64, finish: u64, output: u64) -> u64
+    requires { ⌜ words ≤ length (now s) ⌝ }
+    ensures { λ r. ⌜ r ≡ refusal (taskChecks (read (now (s .entry))) caller template n finish output) ⌝ }
+{
+    if names::UNKNOWN_COUNT < n {
+        return 7;
+    }
+    if 1 < finish {
+        return 7;
+    }
+    if 1 < output {
+        return 7;
+    }
+    if !is_running(s, caller) {
+        return 8;
+    }
+    if !is_made(s, template) {
+        return 9;
+    }
+    if !is_kind(s, names::TEMPLATE, template) {
+        return 10;
+    }
+    if is_gone(s, template) {
+        return 11;
+    }
+    if !is_count(s, template, n) {
+        return 12;
+    }
+    if !has_room(s, 1 + output) {
+        return 20;
+    }
+    0
+}
+
+pub fn event_refusal(s: &[u64], caller: u64, ty: u64) -> u64
+    requires { ⌜ words ≤ length (now s) ⌝ }
+    ensures { λ r. ⌜ r ≡ refusal (eventChecks (read (now (s .entry))) caller ty) ⌝ }
+{
+    if ty < names::ONCE {
+        return 7;
+    }
+    if names::LATCH < ty {
+        return 7;
+    }
+    if !is_running(s, caller) {
+        return 8;
+    }
+    if !has_room(s, 1) {
+        return 20;
+    }
+    0
+}
+
+pub fn block_refusal(s: &[u64], caller: u64, hold: u64) -> u64
+    requires { ⌜ words ≤ length (now s) ⌝ }
+    ensures { λ r. ⌜ r ≡ refusal (blockChecks (read (now (s .entry))) caller hold) ⌝ }
+{
+    if 1 < hold {
+        return 7;
+    }
+    if !is_running(s, caller) {
+        return 8;
+    }
+    if !has_room(s, 1) {
+        return 20;
+    }
+    0
+}
+
+// The checks of a dependence from 14 on: those of a link, or those of a slot that is satisfied now.
+fn satisfy_or_link_refusal(s: &[u64], source: u64, d: u64, j: u64) -> u64
+    requires { ⌜ words ≤ length (now s) ⌝ }
+    ensures { λ r. ⌜ r ≡ refusal (satisfyOrLinkChecks (read (now (s .entry))) source d j) ⌝ }
+{
+    if is_kind(s, names::EVENT, source) {
+        if names::MOST_LINKS <= session::get(s, Field::Links, 0) {
+            return 21;
+        }
+        return 0;
+    }
+    if is_fired_sticky(s, d) {
+        return 14;
+    }
+    if overflows(s, d, j) {
+        return 19;
+    }
+    0
+}
+
+pub fn dependence_refusal(s: &[u64], caller: u64, source: u64, d: u64, j: u64, mode: u64) -> u64
+    requires { ⌜ words ≤ length (now s) ⌝ }
+    ensures { λ r. ⌜ r ≡ refusal (dependenceChecks (read (now (s .entry))) caller source d j mode) ⌝ }
+{
+    if mode < names::RO {
+        return 7;
+    }
+    if names::CONST < mode {
+        return 7;
+    }
+    if !is_running(s, caller) {
+        return 8;
+    }
+    if !is_made_or_null(s, source) {
+        return 9;
+    }
+    if !is_made(s, d) {
+        return 9;
+    }
+    if !is_source(s, source) {
+        return 10;
+    }
+    if !is_destination(s, d) {
+        return 10;
+    }
+    if !remains_or_null(s, source) {
+        return 11;
+    }
+    if is_gone(s, d) {
+        return 11;
+    }
+    if !has_slot(s, d, j) {
+        return 12;
+    }
+    if !is_unclaimed(s, d, j) {
+        return 13;
+    }
+    satisfy_or_link_refusal(s, source, d, j)
+}
+
+pub fn satisfy_refusal(s: &[u64], caller: u64, e: u64, b: u64, j: u64) -> u64
+    requires { ⌜ words ≤ length (now s) ⌝ }
+    ensures { λ r. ⌜ r ≡ refusal (satisfyChecks (read (now (s .entry))) caller e b j) ⌝ }
+{
+    if !is_running(s, caller) {
+        return 8;
+    }
+    if !is_made(s, e) {
+        return 9;
+    }
+    if !is_made_or_null(s, b) {
+        return 9;
+    }
+    if !is_user_event(s, e) {
+        return 10;
+    }
+    if !is_block_or_null(s, b) {
+        return 10;
+    }
+    if is_gone(s, e) {
+        return 11;
+    }
+    if !remains_or_null(s, b) {
+        return 11;
+    }
+    if !has_slot(s, e, j) {
+        return 12;
+    }
+    if is_fired_sticky(s, e) {
+        return 14;
+    }
+    if overflows(s, e, j) {
+        return 19;
+    }
+    0
+}
+
+pub fn release_refusal(s: &[u64], caller: u64, b: u64) -> u64
+    requires { ⌜ words ≤ length (now s) ⌝ }
+    ensures { λ r. ⌜ r ≡ refusal (releaseChecks (read (now (s .entry))) caller b) ⌝ }
+{
+    if !is_running(s, caller) {
+        return 8;
+    }
+    if !is_made(s, b) {
+        return 9;
+    }
+    if !is_kind(s, names::BLOCK, b) {
+        return 10;
+    }
+    if of(s, Field::BlockState, b) == names::BLOCK_DESTROYED {
+        return 11;
+    }
+    if !holds_block(s, caller, b) {
+        return 15;
+    }
+    0
+}
+
+pub fn destroy_refusal(s: &[u64], caller: u64, h: u64) -> u64
+    requires { ⌜ words ≤ length (now s) ⌝ }
+    ensures { λ r. ⌜ r ≡ refusal (destroyChecks (read (now (s .entry))) caller h) ⌝ }
+{
+    if !is_running(s, caller) {
+        return 8;
+    }
+    if !is_made(s, h) {
+        return 9;
+    }
+    if !is_destroyable(s, h) {
+        return 10;
+    }
+    if is_gone(s, h) {
+        return 11;
+    }
+    if !is_idle(s, h) {
+        return 16;
+    }
+    0
+}
+
+pub fn deliver_refusal(s: &[u64], l: u64) -> u64
+    requires { ⌜ words ≤ length (now s) ⌝ }
+    ensures { λ r. ⌜ r ≡ refusal (deliverChecks (read (now (s .entry))) l) ⌝ }
+{
+    if l == 0 {
+        return 9;
+    }
+    if session::get(s, Field::Links, 0) < l {
+        return 9;
+    }
+    if state_of_link(s, l) != names::READY {
+        return 16;
+    }
+    0
+}
+
+// Internal, and the memory is a sound session.
+pub fn grant_refusal(s: &[u64], t: u64) -> u64
+    requires { ⌜ (words ≤ length (now s)) × holds (sound (read (now s))) ⌝ }
+    ensures { λ r. ⌜ r ≡ refusal (grantChecks (read (now (s .entry))) t) ⌝ }
+{
+    if !is_made(s, t) {
+        return 9;
+    }
+    if !is_kind(s, names::TASK, t) {
+        return 10;
+    }
+    if is_gone(s, t) {
+        return 11;
+    }
+    if of(s, Field::TaskState, t) != names::RESOLVED {
+        return 16;
+    }
+    let task = task_at(s, t as usize);
+    if !blocks_remain(s, t, task) {
+        return 17;
+    }
+    if !is_free(s, t, task) {
+        return 18;
+    }
+    0
+}
+
+pub fn start_refusal(s: &[u64], t: u64) -> u64
+    requires { ⌜ words ≤ length (now s) ⌝ }
+    ensures { λ r. ⌜ r ≡ refusal (startChecks (read (now (s .entry))) t) ⌝ }
+{
+    if !is_made(s, t) {
+        return 9;
+    }
+    if !is_kind(s, names::TASK, t) {
+        return 10;
+    }
+    if is_gone(s, t) {
+        return 11;
+    }
+    if of(s, Field::TaskState, t) != names::GRANTED {
+        return 16;
+    }
+    0
+}
+
+pub fn end_refusal(s: &[u64], t: u64, b: u64) -> u64
+    requires { ⌜ words ≤ length (now s) ⌝ }
+    ensures { λ r. ⌜ r ≡ refusal (endChecks (read (now (s .entry))) t b) ⌝ }
+{
+    if !is_made(s, t) {
+        return 9;
+    }
+    if !is_made_or_null(s, b) {
+        return 9;
+    }
+    if !is_kind(s, names::TASK, t) {
+        return 10;
+    }
+    if !is_block_or_null(s, b) {
+        return 10;
+    }
+    if is_gone(s, t) {
+        return 11;
+    }
+    if !remains_or_null(s, b) {
+        return 11;
+    }
+    if of(s, Field::TaskState, t) != names::RUNNING {
+        return 16;
+    }
+    0
+}

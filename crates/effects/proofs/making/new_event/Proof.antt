@@ -1,0 +1,54 @@
+use Rattle.session.specs.TableLaws.{wrote-more}
+use Rattle.session.specs.declared.Field.the-variants.{EventState, EventType, EventTally}
+use Rattle.rules.specs.Effects.{newEvent}
+use Rattle.effects.specs.Making.{firstTally}
+use borrow.Author.Needs.{needs}
+use Rattle.effects.proofs.making.new_event.Statement.{statement}
+use Rattle.effects.proofs.making.new_event.Tie as tie
+use Rattle.effects.proofs.making.new_event.Reads as reads
+use Rattle.effects.proofs.making.new_event.Lts as lts
+use Rattle.effects.proofs.making.first_tally.Reads as first-tally-reads
+use Rattle.effects.proofs.making.new_object.Reads as new-object-reads
+use Rattle.session.proofs.set.Reads as set-reads
+
+new-object-requires : tie.Need-new-object-requires
+new-object-requires c κs = search needs
+
+set-requires : tie.Need-set-requires
+set-requires c κs = search needs
+
+set-requires-2 : tie.Need-set-requires-2
+set-requires-2 c κs = search needs
+
+first-tally-requires : tie.Need-first-tally-requires
+first-tally-requires c κs = search needs
+
+set-requires-3 : tie.Need-set-requires-3
+set-requires-3 c κs = search needs
+
+same-length : tie.Need-same-length
+same-length c = search needs
+
+returns : tie.Need-returns
+unfolding newEvent firstTally
+returns c =
+    let three = c .before .before in
+    let two = three .before .before .before .before .before in
+    let one = two .before .before .before .before in
+    let object = one .before .before .before .before in
+    rw (← three .before .first-tally .ensures)
+    (wrote-more EventTally _ _
+    (wrote-more EventType _ _ (wrote-more EventState _ _ (object .new-object .ensures) (one .set .ensures)) (two .set2 .ensures))
+    (three .set3 .ensures))
+
+pub new-event-spec : {M : Type 1} → statement M
+new-event-spec =
+    tie.close
+    (tie.spec
+    new-object-requires
+    set-requires
+    set-requires-2
+    first-tally-requires
+    set-requires-3
+    same-length
+    returns)

@@ -1,0 +1,24 @@
+use borrow.Author.Needs.{needs}
+use Rattle.effects.proofs.operations.run_event.Statement.{statement}
+use Rattle.effects.proofs.operations.run_event.Tie as tie
+use Rattle.effects.proofs.operations.run_event.Reads as reads
+use Rattle.effects.proofs.operations.run_event.Lts as lts
+use Rattle.effects.proofs.making.new_event.Reads as new-event-reads
+use Rattle.effects.proofs.operations.next_object.Reads as next-object-reads
+
+next-object-requires : tie.Need-next-object-requires
+next-object-requires c κs = search needs
+
+new-event-requires : tie.Need-new-event-requires
+new-event-requires c κs = search needs
+
+same-length : tie.Need-same-length
+same-length c = search needs
+
+returns : tie.Need-returns
+returns c =
+    let h = c .before .before .before .before .next-object in
+    record { wrote = rw (← h .ensures) (c .before .before .new-event .ensures); answer = h .ensures }
+
+pub run-event-spec : {M : Type 1} → statement M
+run-event-spec = tie.close (tie.spec next-object-requires new-event-requires same-length returns)

@@ -1,0 +1,30 @@
+use borrow.Author.Needs.{needs}
+use Rattle.effects.proofs.operations.run_task.Statement.{statement}
+use Rattle.effects.proofs.operations.run_task.Tie as tie
+use Rattle.effects.proofs.operations.run_task.Reads as reads
+use Rattle.effects.proofs.operations.run_task.Lts as lts
+use Rattle.effects.proofs.making.make_task.Reads as make-task-reads
+use Rattle.effects.proofs.operations.next_object.Reads as next-object-reads
+use Rattle.effects.proofs.operations.slots_of.Reads as slots-of-reads
+
+next-object-requires : tie.Need-next-object-requires
+next-object-requires c κs = search needs
+
+slots-of-requires : tie.Need-slots-of-requires
+slots-of-requires c κs = search needs
+
+make-task-requires : tie.Need-make-task-requires
+make-task-requires c κs = search needs
+
+same-length : tie.Need-same-length
+same-length c = search needs
+
+returns : tie.Need-returns
+returns c =
+    let n = c .before .before .before .before in
+    record { wrote = rw (← n .slots-of .ensures) (c .before .before .make-task .ensures); answer = n .before .before .next-object .ensures }
+
+pub run-task-spec : {M : Type 1} → statement M
+run-task-spec =
+    tie.close
+    (tie.spec next-object-requires slots-of-requires make-task-requires same-length returns)

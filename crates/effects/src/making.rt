@@ -1,0 +1,101 @@
+// Making templates, tasks, events and blocks.
+use session::Field;
+ghost use mathlib.Core.Path.{_≡_};
+ghost use Prim.Native.Nat.{_≤_, _<_, _+_};
+ghost use lib.ListN.{length};
+ghost use Rattle.session.specs.Table.{Wrote, read, words};
+ghost use Rattle.session.specs.declared.Field.the-variants.{Objects};
+ghost use Rattle.rules.specs.Effects.{new, newTemplate, newEvent, newTask, makeTask, newBlock};
+ghost use Rattle.effects.specs.Making.{firstTally, firstState};
+
+// Object h is the last, and of this kind. Internal: callers have shown the length and the handle.
+fn new_object(s: &mut [u64], h: u64, kind: u64)
+    requires { ⌜ (words ≤ length (now s)) × (h ≤ 512) ⌝ }
+    ensures { λ r. ⌜ Wrote (now (s .entry)) (now (s .exit)) (new (read (now (s .entry))) h kind) ⌝ }
+{
+    session::set(s, Field::Objects, 0, h);
+    session::set(s, Field::Kind, h as usize, kind);
+}
+
+// A new template with n pre-slots, or 17 for unknown. Internal: callers have shown the length and the room.
+pub fn new_template(s: &mut [u64], n: u64)
+    requires { ⌜ (words ≤ length (now s)) × (read (now s) Objects 0 < 512) ⌝ }
+    ensures { λ r. ⌜ Wrote (now (s .entry)) (now (s .exit)) (newTemplate (read (now (s .entry))) n) ⌝ }
+{
+    let h = session::get(s, Field::Objects, 0) + 1;
+    new_object(s, h, session::names::TEMPLATE);
+    let at = h as usize;
+    session::set(s, Field::TemplateState, at, session::names::FRESH);
+    session::set(s, Field::TemplateCount, at, n);
+}
+
+// The tally of an event of this type as it is made: a latch counts from 0.
+fn first_tally(ty: u64) -> u64
+    ensures { λ r. ⌜ r ≡ firstTally ty ⌝ }
+{
+    if ty == session::names::LATCH {
+        return session::names::EVEN_TALLY;
+    }
+    0
+}
+
+// A new event of type ty with handle h. Internal: callers have shown the length and the handle.
+pub fn new_event(s: &mut [u64], h: u64, ty: u64)
+    requires { ⌜ (words ≤ length (now s)) × (h ≤ 512) ⌝ }
+    ensures { λ r. ⌜ Wrote (now (s .entry)) (now (s .exit)) (newEvent (read (now (s .entry))) h ty) ⌝ }
+{
+    new_object(s, h, session::names::EVENT);
+    let at = h as usize;
+    session::set(s, Field::EventState, at, session::names::OPEN);
+    session::set(s, Field::EventType, at, ty);
+    session::set(s, Field::EventTally, at, first_tally(ty));
+}
+
+// The state of a task with n pre-slots as it is made.
+fn first_state(n: u64) -> u64
+    ensures { λ r. ⌜ r ≡ firstState n ⌝ }
+{
+    if n == 0 {
+        return session::names::RESOLVED;
+    }
+    session::names::WAITING
+}
+
+// A new task with handle h and n pre-slots. Internal: callers have shown the length and the handle.
+fn new_task(s: &mut [u64], caller: u64, h: u64, n: u64, finish: u64, out: u64)
+    requires { ⌜ (words ≤ length (now s)) × (h ≤ 512) ⌝ }
+    ensures { λ r. ⌜ Wrote (now (s .entry)) (now (s .exit)) (newTask (read (now (s .entry))) caller h n finish out) ⌝ }
+{
+    new_object(s, h, session::names::TASK);
+    let at = h as usize;
+    session::set(s, Field::TaskState, at, first_state(n));
+    session::set(s, Field::TaskCreator, at, caller);
+    session::set(s, Field::TaskSlots, at, n);
+    session::set(s, Field::TaskFinish, at, finish);
+    session::set(s, Field::TaskOutput, at, out);
+}
+
+// A new task, with out 1 its output event after it. Internal: callers have shown the length and the room.
+pub fn make_task(s: &mut [u64], caller: u64, slots: u64, finish: u64, out: u64)
+    requires { ⌜ (words ≤ length (now s)) × (read (now s) Objects 0 + (1 + out) ≤ 512) ⌝ }
+    ensures { λ r. ⌜ Wrote (now (s .entry)) (now (s .exit)) (makeTask (read (now (s .entry))) caller slots finish out) ⌝ }
+{
+    let h = session::get(s, Field::Objects, 0) + 1;
+    new_task(s, caller, h, slots, finish, out);
+    if out == 1 {
+        new_event(s, h + 1, session::names::OUTPUT);
+    }
+}
+
+// A new block, with hold 1 held by its creator. Internal: callers have shown the length and the room.
+pub fn new_block(s: &mut [u64], caller: u64, hold: u64)
+    requires { ⌜ (words ≤ length (now s)) × (read (now s) Objects 0 < 512) ⌝ }
+    ensures { λ r. ⌜ Wrote (now (s .entry)) (now (s .exit)) (newBlock (read (now (s .entry))) caller hold) ⌝ }
+{
+    let h = session::get(s, Field::Objects, 0) + 1;
+    new_object(s, h, session::names::BLOCK);
+    let at = h as usize;
+    session::set(s, Field::BlockState, at, session::names::FRESH);
+    session::set(s, Field::BlockCreator, at, caller);
+    session::set(s, Field::BlockHeld, at, hold);
+}

@@ -1,0 +1,127 @@
+-- What running an operation on lent memory answers and leaves.
+use Prim.Native.Nat.{ℕ, suc, _-_, _≤_, _<_}
+use mathlib.Core.Path.{_≡_, refl, sym, _∙_}
+use native.Mathlib.Omega.{arith}
+use mathlib.Core.Bool.{true, false}
+use mathlib.Core.List.{List}
+use lib.ListN.{length}
+use lib.Dec.{leb}
+use borrow.Author.Tests.{le-leb, lt-leb}
+use Rattle.session.specs.Table.{Session, Wrote, read, words, pick}
+use Rattle.session.specs.TableLaws.{wrote-none}
+use Rattle.rules.specs.declared.Operation.{Operation}
+use Rattle.rules.specs.declared.Answer.{Answer}
+use Rattle.rules.specs.declared.Answer.the-variants.{Accepted, Refused}
+use Rattle.rules.specs.Formula.{holds, test, choose, Formula._≐_}
+use Rattle.rules.specs.FormulaLaws.{choose-yes, choose-no, passed, failed}
+use Rattle.rules.specs.Checks.{Check, refusal}
+use Rattle.rules.specs.Answer.{refusedOf, madeOf}
+use Rattle.rules.specs.Sound.{sound}
+use Rattle.rules.specs.Step.{Reply, rules, ruleOf, answer, after, outcome, step}
+use Rattle.sound.specs.Whole.{soundMemory}
+use Rattle.laws.specs.Cases.{step-sound, step-unsound}
+
+-- An operation with these checks, effect and number made, run on memory: the answer says the first check that fails, or what
+-- was made; the memory holds the session after; and under a refusal the words themselves are the same.
+pub record Played (before after : List ℕ) (r : Answer) (checks : List Check) (does : Session) (makes : ℕ) : Type 0 where
+  pub refused : refusedOf r ≡ refusal checks
+  pub made : madeOf r ≡ choose (refusal checks ≐ 0) makes 0
+  pub leaves : Wrote before after (choose (refusal checks ≐ 0) does (read before))
+  pub stays : (refusedOf r ≡ 0 → ⊥) → after ≡ before
+
+-- What a single call promises of any memory: check 1 ("Session memory is shorter than docs/ says"), then `step`, with check 2 and
+-- the others. The answer's two numbers are the reply's; the words past the layout stay; a refusal changes no word.
+pub record Replied (before after : List ℕ) (r : Answer) (reply : Reply) : Type 0 where
+  pub refused : refusedOf r ≡ reply .refused
+  pub made : madeOf r ≡ reply .made
+  pub leaves : Wrote before after (reply .leaves)
+  pub stays : (refusedOf r ≡ 0 → ⊥) → after ≡ before
+
+abbrev pub Answered : List ℕ → List ℕ → Operation → Answer → Type 0
+Answered before after op r =
+    pick (leb words (length before)) (Replied before after r (step (read before) op)) ((r ≡ Refused 1) × (after ≡ before))
+
+-- the operation of a code and its fields
+abbrev pub operationOf : ℕ → List ℕ → Operation
+operationOf code fields = record { code = code; fields = fields }
+
+abbrev pub PlayedBy : List ℕ → List ℕ → Answer → ℕ → List ℕ → Type 0
+PlayedBy before after r code fields =
+    let o = operationOf code fields in
+    Played before after r (ruleOf o .asks (read before) o) (ruleOf o .does (read before) o) (ruleOf o .makes (read before) o)
+
+-- a refusal
+pub played-refused : (ws : List ℕ) (n : ℕ) (checks : List Check) (does : Session) (makes : ℕ) → n ≡ refusal checks → (n ≡ 0 → ⊥)
+    → Played ws ws (Refused n) checks does makes
+unfolding refusedOf madeOf
+played-refused ws n checks does makes e z =
+    let f : refusal checks ≡ 0 → ⊥ = λ q. z (e ∙ q) in
+    record {
+      refused = e;
+      made = sym (choose-no (refusal checks ≐ 0) makes 0 f);
+      leaves = rw (choose-no (refusal checks ≐ 0) does (read ws) f) (wrote-none ws);
+      stays = λ _. refl;
+    }
+
+-- an operation accepted
+pub played-accepted : (before after : List ℕ) (m : ℕ) (checks : List Check) (does : Session) (makes : ℕ) → refusal checks ≡ 0 → m ≡ makes
+    → Wrote before after does → Played before after (Accepted m) checks does makes
+unfolding refusedOf madeOf
+played-accepted before after m checks does makes e q w =
+    record {
+      refused = sym e;
+      made = q ∙ sym (choose-yes (refusal checks ≐ 0) makes 0 e);
+      leaves = rw (choose-yes (refusal checks ≐ 0) does (read before) e) w;
+      stays = λ n. absurd (n refl);
+    }
+
+-- a code that there is not
+pub played-unknown : (ws : List ℕ) (code : ℕ) (fields : List ℕ) → 13 ≤ code → PlayedBy ws ws (Refused 6) code fields
+unfolding rules refusal test
+played-unknown ws code fields h =
+    let e : code ≡ suc (suc (suc (suc (suc (suc (suc (suc (suc (suc (suc (suc (suc (code - 13))))))))))))) = omega arith in
+    rw e (played-refused ws 6 _ _ _ refl (λ z. omega arith))
+
+pub played-none : (ws : List ℕ) (code : ℕ) (fields : List ℕ) → code ≡ 0 → PlayedBy ws ws (Refused 6) code fields
+unfolding rules refusal test
+played-none ws code fields e = rw e (played-refused ws 6 _ _ _ refl (λ z. omega arith))
+
+-- what a match on a code leaves
+pub no-maker : (n : ℕ) → n < 5 → (n ≡ 1 → ⊥) → (n ≡ 2 → ⊥) → (n ≡ 3 → ⊥) → (n ≡ 4 → ⊥) → n ≡ 0
+no-maker n h a b c d = omega arith
+
+pub last-call : (n : ℕ) → 5 ≤ n → n < 9 → (n ≡ 5 → ⊥) → (n ≡ 6 → ⊥) → (n ≡ 7 → ⊥) → n ≡ 8
+last-call n l h a b c = omega arith
+
+pub no-move : (n : ℕ) → 9 ≤ n → (n ≡ 9 → ⊥) → (n ≡ 10 → ⊥) → (n ≡ 11 → ⊥) → (n ≡ 12 → ⊥) → 13 ≤ n
+no-move n l a b c d = omega arith
+
+-- from the operation's checks and effect to one step of a sound session
+pub replied : (before after : List ℕ) (r : Answer) (op : Operation) → holds (sound (read before)) → PlayedBy before after r (op .code) (op .fields)
+    → Replied before after r (step (read before) op)
+unfolding answer after outcome
+replied before after r op h p = rw (step-sound (read before) op h) (record { refused = p .refused; made = p .made; leaves = p .leaves; stays = p .stays })
+
+-- memory too short, a session not sound, and one that is
+pub answered-short : (ws : List ℕ) (op : Operation) → length ws < words → Answered ws ws op (Refused 1)
+answered-short ws op h = rw (lt-leb words (length ws) h) (refl, refl)
+
+pub answered-unsound : (ws : List ℕ) (op : Operation) → words ≤ length ws → (holds (sound (read ws)) → ⊥) → Answered ws ws op (Refused 2)
+unfolding refusedOf madeOf
+answered-unsound ws op h n =
+    rw (le-leb words (length ws) h, step-unsound (read ws) op n) (record { refused = refl; made = refl; leaves = wrote-none ws; stays = λ _. refl })
+
+pub answered-sound : (before after : List ℕ) (op : Operation) (r : Answer) → words ≤ length before → Replied before after r (step (read before) op)
+    → Answered before after op r
+answered-sound before after op r h p = rw (le-leb words (length before) h) p
+
+-- what the sound check's answer says of memory of sufficient length
+memory-test : (ws : List ℕ) → words ≤ length ws → soundMemory ws ≡ test (sound (read ws))
+unfolding soundMemory
+memory-test ws h = rw (le-leb words (length ws) h)
+
+pub memory-sound : (ws : List ℕ) → words ≤ length ws → soundMemory ws ≡ true → holds (sound (read ws))
+memory-sound ws h e = passed (sound (read ws)) (sym (memory-test ws h) ∙ e)
+
+pub memory-unsound : (ws : List ℕ) → words ≤ length ws → soundMemory ws ≡ false → holds (sound (read ws)) → ⊥
+memory-unsound ws h e = failed (sound (read ws)) (sym (memory-test ws h) ∙ e)

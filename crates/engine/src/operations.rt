@@ -1,0 +1,216 @@
+// The operations, each with its checks and then its effect. Internal: callers have shown the length and a sound session.
+use rules::Answer;
+ghost use mathlib.Core.Path.{_≡_};
+ghost use Prim.Native.Nat.{_+_, _≤_, _<_};
+ghost use lib.ListN.{length};
+ghost use Rattle.session.specs.Table.{read, words};
+ghost use Rattle.session.specs.declared.Field.the-variants.{Objects, Links};
+ghost use Rattle.rules.specs.Formula.{holds, choose};
+ghost use Rattle.rules.specs.Sound.{sound};
+ghost use Rattle.rules.specs.Checks.{templateChecks, taskChecks, eventChecks, blockChecks, dependenceChecks, satisfyChecks, releaseChecks, destroyChecks, deliverChecks, grantChecks, startChecks, endChecks, taskSlots, makesLink};
+ghost use Rattle.rules.specs.Effects as effect;
+ghost use Rattle.engine.specs.Played.{Played, PlayedBy};
+
+pub fn template(s: &mut [u64], caller: u64, n: u64) -> Answer
+    requires { ⌜ (words ≤ length (now s)) × holds (sound (read (now s))) ⌝ }
+    ensures { λ r. ⌜
+        Played (now (s .entry)) (now (s .exit)) r (templateChecks (read (now (s .entry))) caller n) (effect.newTemplate (read (now (s .entry))) n) ((read (now (s .entry))) Objects 0 + 1)
+        ⌝ }
+{
+    let refused = checks::template_refusal(s, caller, n);
+    if refused != 0 {
+        return Answer::Refused(refused);
+    }
+    Answer::Accepted(effects::operations::run_template(s, caller, n))
+}
+
+pub fn task(s: &mut [u64], caller: u64, tm: u64, n: u64, finish: u64, out: u64) -> Answer
+    requires { ⌜ (words ≤ length (now s)) × holds (sound (read (now s))) ⌝ }
+    ensures { λ r. ⌜
+        Played (now (s .entry)) (now (s .exit)) r (taskChecks (read (now (s .entry))) caller tm n finish out) (effect.makeTask (read (now (s .entry))) caller (taskSlots (read (now (s .entry))) tm n) finish out) ((read (now (s .entry))) Objects 0 + 1)
+        ⌝ }
+{
+    let refused = checks::task_refusal(s, caller, tm, n, finish, out);
+    if refused != 0 {
+        return Answer::Refused(refused);
+    }
+    Answer::Accepted(effects::operations::run_task(s, caller, tm, n, finish, out))
+}
+
+pub fn event(s: &mut [u64], caller: u64, ty: u64) -> Answer
+    requires { ⌜ (words ≤ length (now s)) × holds (sound (read (now s))) ⌝ }
+    ensures { λ r. ⌜
+        Played (now (s .entry)) (now (s .exit)) r (eventChecks (read (now (s .entry))) caller ty) (effect.newEvent (read (now (s .entry))) ((read (now (s .entry))) Objects 0 + 1) ty) ((read (now (s .entry))) Objects 0 + 1)
+        ⌝ }
+{
+    let refused = checks::event_refusal(s, caller, ty);
+    if refused != 0 {
+        return Answer::Refused(refused);
+    }
+    Answer::Accepted(effects::operations::run_event(s, caller, ty))
+}
+
+pub fn block(s: &mut [u64], caller: u64, hold: u64) -> Answer
+    requires { ⌜ (words ≤ length (now s)) × holds (sound (read (now s))) ⌝ }
+    ensures { λ r. ⌜
+        Played (now (s .entry)) (now (s .exit)) r (blockChecks (read (now (s .entry))) caller hold) (effect.newBlock (read (now (s .entry))) caller hold) ((read (now (s .entry))) Objects 0 + 1)
+        ⌝ }
+{
+    let refused = checks::block_refusal(s, caller, hold);
+    if refused != 0 {
+        return Answer::Refused(refused);
+    }
+    Answer::Accepted(effects::operations::run_block(s, caller, hold))
+}
+
+pub fn dependence(s: &mut [u64], caller: u64, source: u64, d: u64, j: u64, mode: u64) -> Answer
+    requires { ⌜ (words ≤ length (now s)) × holds (sound (read (now s))) ⌝ }
+    ensures { λ r. ⌜
+        Played (now (s .entry)) (now (s .exit)) r (dependenceChecks (read (now (s .entry))) caller source d j mode) (effect.depend (read (now (s .entry))) source d j mode) (choose (makesLink (read (now (s .entry))) source) ((read (now (s .entry))) Links 0 + 1) 0)
+        ⌝ }
+{
+    let refused = checks::dependence_refusal(s, caller, source, d, j, mode);
+    if refused != 0 {
+        return Answer::Refused(refused);
+    }
+    Answer::Accepted(effects::operations::run_dependence(s, caller, source, d, j, mode))
+}
+
+pub fn satisfy(s: &mut [u64], caller: u64, e: u64, b: u64, j: u64) -> Answer
+    requires { ⌜ (words ≤ length (now s)) × holds (sound (read (now s))) ⌝ }
+    ensures { λ r. ⌜
+        Played (now (s .entry)) (now (s .exit)) r (satisfyChecks (read (now (s .entry))) caller e b j) (effect.satisfyEvent (read (now (s .entry))) e j b) (0)
+        ⌝ }
+{
+    let refused = checks::satisfy_refusal(s, caller, e, b, j);
+    if refused != 0 {
+        return Answer::Refused(refused);
+    }
+    effects::operations::run_satisfy(s, caller, e, b, j);
+    Answer::Accepted(0)
+}
+
+pub fn release(s: &mut [u64], caller: u64, b: u64) -> Answer
+    requires { ⌜ (words ≤ length (now s)) × holds (sound (read (now s))) ⌝ }
+    ensures { λ r. ⌜
+        Played (now (s .entry)) (now (s .exit)) r (releaseChecks (read (now (s .entry))) caller b) (effect.release (read (now (s .entry))) caller b) (0)
+        ⌝ }
+{
+    let refused = checks::release_refusal(s, caller, b);
+    if refused != 0 {
+        return Answer::Refused(refused);
+    }
+    holding::operations::release(s, caller, b);
+    Answer::Accepted(0)
+}
+
+pub fn destroy(s: &mut [u64], caller: u64, h: u64) -> Answer
+    requires { ⌜ (words ≤ length (now s)) × holds (sound (read (now s))) ⌝ }
+    ensures { λ r. ⌜
+        Played (now (s .entry)) (now (s .exit)) r (destroyChecks (read (now (s .entry))) caller h) (effect.destroy (read (now (s .entry))) caller h) (0)
+        ⌝ }
+{
+    let refused = checks::destroy_refusal(s, caller, h);
+    if refused != 0 {
+        return Answer::Refused(refused);
+    }
+    holding::operations::destroy(s, caller, h);
+    Answer::Accepted(0)
+}
+
+pub fn deliver(s: &mut [u64], l: u64) -> Answer
+    requires { ⌜ (words ≤ length (now s)) × holds (sound (read (now s))) ⌝ }
+    ensures { λ r. ⌜
+        Played (now (s .entry)) (now (s .exit)) r (deliverChecks (read (now (s .entry))) l) (effect.deliver (read (now (s .entry))) l) (0)
+        ⌝ }
+{
+    let refused = checks::deliver_refusal(s, l);
+    if refused != 0 {
+        return Answer::Refused(refused);
+    }
+    effects::operations::run_deliver(s, l);
+    Answer::Accepted(0)
+}
+
+pub fn grant(s: &mut [u64], t: u64) -> Answer
+    requires { ⌜ (words ≤ length (now s)) × holds (sound (read (now s))) ⌝ }
+    ensures { λ r. ⌜
+        Played (now (s .entry)) (now (s .exit)) r (grantChecks (read (now (s .entry))) t) (effect.grant (read (now (s .entry))) t) (0)
+        ⌝ }
+{
+    let refused = checks::grant_refusal(s, t);
+    if refused != 0 {
+        return Answer::Refused(refused);
+    }
+    holding::operations::grant(s, t);
+    Answer::Accepted(0)
+}
+
+pub fn start_task(s: &mut [u64], t: u64) -> Answer
+    requires { ⌜ (words ≤ length (now s)) × holds (sound (read (now s))) ⌝ }
+    ensures { λ r. ⌜
+        Played (now (s .entry)) (now (s .exit)) r (startChecks (read (now (s .entry))) t) (effect.start (read (now (s .entry))) t) (0)
+        ⌝ }
+{
+    let refused = checks::start_refusal(s, t);
+    if refused != 0 {
+        return Answer::Refused(refused);
+    }
+    holding::operations::start(s, t);
+    Answer::Accepted(0)
+}
+
+pub fn end_task(s: &mut [u64], t: u64, b: u64) -> Answer
+    requires { ⌜ (words ≤ length (now s)) × holds (sound (read (now s))) ⌝ }
+    ensures { λ r. ⌜
+        Played (now (s .entry)) (now (s .exit)) r (endChecks (read (now (s .entry))) t b) (effect.end (read (now (s .entry))) t b) (0)
+        ⌝ }
+{
+    let refused = checks::end_refusal(s, t, b);
+    if refused != 0 {
+        return Answer::Refused(refused);
+    }
+    holding::operations::end(s, t, b);
+    Answer::Accepted(0)
+}
+
+// Codes below 5: what makes objects.
+pub fn make(s: &mut [u64], code: u64, f: [u64; 5]) -> Answer
+    requires { ⌜ (words ≤ length (now s)) × holds (sound (read (now s))) × (code < 5) ⌝ }
+    ensures { λ r. ⌜ PlayedBy (now (s .entry)) (now (s .exit)) r code f ⌝ }
+{
+    match code {
+        1 => template(s, f[0], f[1]),
+        2 => task(s, f[0], f[1], f[2], f[3], f[4]),
+        3 => event(s, f[0], f[1]),
+        4 => block(s, f[0], f[1]),
+        _ => Answer::Refused(6),
+    }
+}
+
+// Codes 5 to 8: the other calls of a running task.
+pub fn call(s: &mut [u64], code: u64, f: [u64; 5]) -> Answer
+    requires { ⌜ (words ≤ length (now s)) × holds (sound (read (now s))) × (5 ≤ code) × (code < 9) ⌝ }
+    ensures { λ r. ⌜ PlayedBy (now (s .entry)) (now (s .exit)) r code f ⌝ }
+{
+    match code {
+        5 => dependence(s, f[0], f[1], f[2], f[3], f[4]),
+        6 => satisfy(s, f[0], f[1], f[2], f[3]),
+        7 => release(s, f[0], f[1]),
+        _ => destroy(s, f[0], f[1]),
+    }
+}
+
+// Codes from 9 on: the moves, which have no caller, and the codes that there are not.
+pub fn move_on(s: &mut [u64], code: u64, f: [u64; 5]) -> Answer
+    requires { ⌜ (words ≤ length (now s)) × holds (sound (read (now s))) × (9 ≤ code) ⌝ }
+    ensures { λ r. ⌜ PlayedBy (now (s .entry)) (now (s .exit)) r code f ⌝ }
+{
+    match code {
+        9 => deliver(s, f[0]),
+        10 => grant(s, f[0]),
+        11 => start_task(s, f[0]),
+        12 => end_task(s, f[0], f[1]),
+        _ => Answer::Refused(6),
+    }
+}

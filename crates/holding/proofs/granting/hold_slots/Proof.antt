@@ -1,0 +1,60 @@
+use Prim.Native.Nat.{_≤_, _+_, _-_, _*_}
+use native.Mathlib.Omega.{arith}
+use native.Mathlib.Nat.{add-assoc}
+use lib.ListN.{length}
+use Rattle.session.specs.Table.{Wrote, read, sweep, words}
+use Rattle.session.specs.TableLaws.{wrote-none, wrote-then}
+use Rattle.session.specs.declared.Field.the-variants.{SlotMark}
+use Rattle.holding.specs.Rows.{rows, row-next, own-begin}
+use Rattle.holding.specs.Granting.{grantRow, grantRow-other, granted-end}
+use Rattle.holding.proofs.granting.hold_slots.Statement.{statement}
+use Rattle.holding.proofs.granting.hold_slots.Tie as tie
+
+abbrev Inv-loop : tie.InvT-loop
+Inv-loop s₀ t j₀ s j =
+    (j ≤ 16) × (t ≤ 512) × (words ≤ length s₀) × Wrote s₀ s (sweep (read s₀) SlotMark (t * 16 + j) (rows (grantRow t) (read s₀)))
+
+abbrev μ-loop : tie.MeasureT-loop
+μ-loop s₀ t j₀ s j = 16 - j
+
+loop-holds : tie.Need-loop-holds Inv-loop μ-loop
+loop-holds c =
+    let a = c .before .args in
+    (omega arith, omega arith, omega arith, rw (own-begin (read (a .s .now)) (a .t) (grantRow (a .t)) (grantRow-other (read (a .s .now)) (a .t))) (wrote-none _))
+
+hold-slot-requires : tie.Need-hold-slot-requires Inv-loop μ-loop
+hold-slot-requires c κs = omega arith
+
+add-j : tie.Need-add-j Inv-loop μ-loop
+add-j c = omega arith
+
+loop-less : tie.Need-loop-less Inv-loop μ-loop
+loop-less c = omega arith
+
+loop-again : tie.Need-loop-again Inv-loop μ-loop
+loop-again c =
+    let f = c .before .before .hold-slot in
+    let i = c .before .before .before .before .before .loop .inv in
+    (omega arith, i .1, i .2, rw (← add-assoc, ← row-next _ _ _ _ _ (i .3 .reading)) (wrote-then (i .3) (f .ensures)))
+
+same-length : tie.Need-same-length Inv-loop μ-loop
+same-length c = c .before .loop .inv .3 .same-length
+
+returns : tie.Need-returns Inv-loop μ-loop
+returns c =
+    let l = c .before .loop in
+    rw (← granted-end _ _ (l .j) (omega arith)) (l .inv .3)
+
+pub hold-slots-spec : {M : Type 1} → statement M
+hold-slots-spec =
+    tie.close
+    (tie.spec
+    Inv-loop
+    μ-loop
+    loop-holds
+    hold-slot-requires
+    add-j
+    loop-less
+    loop-again
+    same-length
+    returns)

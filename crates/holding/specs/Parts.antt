@@ -1,0 +1,138 @@
+-- The parts that a destroying and an end are made of.
+use Prim.Native.Nat.{ℕ, _+_, _≤_, _<_}
+use mathlib.Core.Path.{_≡_, refl, _∙_}
+use mathlib.Core.Logic.{inl, inr}
+use native.Mathlib.Omega.{arith}
+use Rattle.session.specs.Table.{Session, put, change}
+use Rattle.session.specs.declared.Field.the-variants.{Objects, Kind, TemplateState, TaskState, TaskFinish, TaskOutput, BlockState}
+use Rattle.session.specs.Names.{template, task, event, templateDestroyed, ended, taskDestroyed, doomed, blockDestroyed}
+use Rattle.rules.specs.Formula.{Formula, holds, choose, Formula._≐_, Formula._and_}
+use Rattle.rules.specs.FormulaLaws.{Case, decide, choose-yes, choose-no, Case.it-does, Case.it-does-not}
+use Rattle.rules.specs.Reading.{made, isHeld}
+use Rattle.rules.specs.Sound.{sound, soundUsed, outputs, taskPart}
+use Rattle.rules.specs.Effects.{letGo, buryDoomed, release, fireOne, fireFinished, destroyEvent, destroyTask, destroyBlock, destroy, end}
+use Rattle.holding.specs.Tidy.{sounds, Tidy, tidy-state, tidy-letGo, tidy-fireOne, tidy-destroyEvent}
+
+-- a choice of two tidy sessions
+tidy-choice : (f : Formula) (a b : Session) → Tidy a → Tidy b → Tidy (choose f a b)
+tidy-choice f a b x y = go (decide f)
+  where
+    go : Case f → Tidy (choose f a b)
+    go (it-does h) = rw (choose-yes f a b h) x
+    go (it-does-not n) = rw (choose-no f a b n) y
+
+-- a task's output event is destroyed
+unfoldable pub outputDestroyed : Session → ℕ → Session
+outputDestroyed s t = choose (s TaskOutput t ≐ 1) (destroyEvent s (t + 1)) s
+
+pub tidy-outputDestroyed : (s : Session) (t : ℕ) → Tidy s → Tidy (outputDestroyed s t)
+unfolding outputDestroyed
+tidy-outputDestroyed s t x = tidy-choice (s TaskOutput t ≐ 1) (destroyEvent s (t + 1)) s (tidy-destroyEvent s x (t + 1)) x
+
+pub destroyTask-parts : (s : Session) (t : ℕ) → fireFinished (outputDestroyed (put s TaskState t taskDestroyed) t) ≡ destroyTask s t
+unfolding outputDestroyed destroyTask put
+destroyTask-parts s t = refl
+
+-- the output event of a plain task that ends fires
+unfoldable pub outputFired : Session → ℕ → ℕ → Session
+outputFired s t b = choose (s TaskOutput t ≐ 1 and s TaskFinish t ≐ 0) (fireOne s (t + 1) b) s
+
+pub tidy-outputFired : (s : Session) (t b : ℕ) → Tidy s → Tidy (outputFired s t b)
+unfolding outputFired
+tidy-outputFired s t b x = tidy-choice (s TaskOutput t ≐ 1 and s TaskFinish t ≐ 0) (fireOne s (t + 1) b) s (tidy-fireOne s x (t + 1) b) x
+
+abbrev pub ending : Session → ℕ → Session
+ending s t = put (letGo s t (λ k. 0 ≐ 0)) TaskState t ended
+
+pub end-parts : (s : Session) (t b : ℕ) → fireFinished (outputFired (ending s t) t b) ≡ end s t b
+unfolding outputFired end put letGo buryDoomed change
+end-parts s t b = refl
+
+-- what each part asks of the one before
+abbrev pub OutputLow : Session → ℕ → Type 0
+OutputLow s t = s TaskOutput t ≡ 1 → t < 512
+
+pub low-state : (s : Session) (t v : ℕ) → OutputLow s t → OutputLow (put s TaskState t v) t
+unfolding put
+low-state s t v l = l
+
+pub low-ending : (s : Session) (t : ℕ) → OutputLow s t → OutputLow (ending s t) t
+unfolding put letGo buryDoomed change
+low-ending s t l = l
+
+pub tidy-ending : (s : Session) (t : ℕ) → Tidy s → Tidy (ending s t)
+tidy-ending s t x = tidy-state (letGo s t (λ k. 0 ≐ 0)) (tidy-letGo s x t (λ k. 0 ≐ 0)) t ended
+
+-- a block's state once it is destroyed
+unfoldable pub fate : Session → ℕ → ℕ
+fate s b = choose (isHeld s b) doomed blockDestroyed
+
+pub destroyBlock-parts : (s : Session) (t b : ℕ) → put (release s t b) BlockState b (fate (release s t b) b) ≡ destroyBlock s t b
+unfolding fate destroyBlock
+destroyBlock-parts s t b = refl
+
+pub few-release : (s : Session) (t b : ℕ) → s Objects 0 ≤ 512 → release s t b Objects 0 ≤ 512
+unfolding release letGo buryDoomed change
+few-release s t b f = f
+
+-- each part by its cases
+pub output-yes : (s : Session) (t : ℕ) → s TaskOutput t ≡ 1 → outputDestroyed s t ≡ destroyEvent s (t + 1)
+unfolding outputDestroyed
+output-yes s t e = choose-yes (s TaskOutput t ≐ 1) (destroyEvent s (t + 1)) s e
+
+pub output-no : (s : Session) (t : ℕ) → (s TaskOutput t ≡ 1 → ⊥) → outputDestroyed s t ≡ s
+unfolding outputDestroyed
+output-no s t n = choose-no (s TaskOutput t ≐ 1) (destroyEvent s (t + 1)) s n
+
+pub fires-yes : (s : Session) (t b : ℕ) → s TaskOutput t ≡ 1 → s TaskFinish t ≡ 0 → outputFired s t b ≡ fireOne s (t + 1) b
+unfolding outputFired
+fires-yes s t b e f = choose-yes (s TaskOutput t ≐ 1 and s TaskFinish t ≐ 0) (fireOne s (t + 1) b) s (e, f)
+
+pub fires-no : (s : Session) (t b : ℕ) → ((s TaskOutput t ≡ 1) × (s TaskFinish t ≡ 0) → ⊥) → outputFired s t b ≡ s
+unfolding outputFired
+fires-no s t b n = choose-no (s TaskOutput t ≐ 1 and s TaskFinish t ≐ 0) (fireOne s (t + 1) b) s n
+
+module _ (s : Session) (t h : ℕ) where
+  abbrev ofTemplate : Session
+  ofTemplate = put s TemplateState h templateDestroyed
+
+  abbrev ofEvent : Session
+  ofEvent = choose (s Kind h ≐ event) (destroyEvent s h) (destroyBlock s t h)
+
+  abbrev ofTask : Session
+  ofTask = choose (s Kind h ≐ task) (destroyTask s h) ofEvent
+
+  no-template : (s Kind h ≡ template → ⊥) → destroy s t h ≡ ofTask
+  unfolding destroy
+  no-template n = choose-no (s Kind h ≐ template) ofTemplate ofTask n
+
+  no-task : (s Kind h ≡ template → ⊥) → (s Kind h ≡ task → ⊥) → destroy s t h ≡ ofEvent
+  no-task n m = no-template n ∙ choose-no (s Kind h ≐ task) (destroyTask s h) ofEvent m
+
+  pub destroys-template : s Kind h ≡ template → destroy s t h ≡ put s TemplateState h templateDestroyed
+  unfolding destroy
+  destroys-template e = choose-yes (s Kind h ≐ template) ofTemplate ofTask e
+
+  pub destroys-task : s Kind h ≡ task → destroy s t h ≡ destroyTask s h
+  destroys-task e = no-template (λ q. omega arith) ∙ choose-yes (s Kind h ≐ task) (destroyTask s h) ofEvent e
+
+  pub destroys-event : s Kind h ≡ event → destroy s t h ≡ destroyEvent s h
+  destroys-event e = no-task (λ q. omega arith) (λ q. omega arith) ∙ choose-yes (s Kind h ≐ event) (destroyEvent s h) (destroyBlock s t h) e
+
+  pub destroys-block : (s Kind h ≡ template → ⊥) → (s Kind h ≡ task → ⊥) → (s Kind h ≡ event → ⊥) → destroy s t h ≡ destroyBlock s t h
+  destroys-block n m k = no-task n m ∙ choose-no (s Kind h ≐ event) (destroyEvent s h) (destroyBlock s t h) k
+
+-- an output event follows its task
+outputs-of : (s : Session) → holds (sound s) → holds (outputs s)
+unfolding sound soundUsed
+outputs-of s x = x .0 .1 .1 .1 .1 .0
+
+pub output-low : (s : Session) → holds (sound s) → (h : ℕ) → holds (made s h) → OutputLow s h
+output-low s x h m e = go (sounds s x .objects .1 h known .1 .1 .0)
+  where
+    known : h < s Objects 0 + 1
+    known = let l = m .1 in omega arith
+
+    go : holds (taskPart s h) → h < 512
+    go (inl y) = let n = outputs-of s x h known .0 (y .0, e) .0 .1 in let c = sounds s x .counts .1 .0 in omega arith
+    go (inr y) = let z = y .1 .1 .1 .1 .1 in absurd (omega arith)

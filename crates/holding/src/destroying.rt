@@ -1,0 +1,130 @@
+// Destroying objects.
+use session::Field;
+use session::names;
+ghost use mathlib.Core.Path.{_≡_};
+ghost use Prim.Native.Nat.{_+_, _≤_, _<_};
+ghost use lib.ListN.{length};
+ghost use Rattle.session.specs.Table.{Wrote, read, put, words};
+ghost use Rattle.session.specs.declared.Field.the-variants.{Objects, Links, LinkState};
+ghost use Rattle.rules.specs.Effects.{destroyEvent, destroyTask, destroyBlock, destroy};
+ghost use Rattle.effects.specs.Firing.{NoMoreLinks};
+ghost use Rattle.holding.specs.Rows.{row};
+ghost use Rattle.holding.specs.Cutting.{retired, cutRow, linksCut};
+ghost use Rattle.holding.specs.Letting.{Doomed, Active};
+ghost use Rattle.holding.specs.Tidy.{Tidy};
+ghost use Rattle.holding.specs.Parts.{outputDestroyed, OutputLow, fate};
+
+// Link l is cut if it is open and from event e. Internal: callers have shown the length and the link.
+fn cut_link(s: &mut [u64], e: u64, l: u64)
+    requires { ⌜ (words ≤ length (now s)) × (l < 2049) ⌝ }
+    ensures { λ r. ⌜
+        Wrote (now (s .entry)) (now (s .exit)) (put (read (now (s .entry))) LinkState l (cutRow e l (row (read (now (s .entry))) l)))
+        ⌝ }
+{
+    if session::get(s, Field::LinkSource, l as usize) == e {
+        if session::get(s, Field::LinkState, l as usize) == names::LINK_OPEN {
+            session::set(s, Field::LinkState, l as usize, names::CUT);
+        }
+    }
+}
+
+// The open links of event e are cut; ready ones still deliver. Internal: callers have shown the length and the links' count.
+fn cut_links(s: &mut [u64], e: u64)
+    requires { ⌜ (words ≤ length (now s)) × (read (now s) Links 0 ≤ 2048) × NoMoreLinks (read (now s)) ⌝ }
+    ensures { λ r. ⌜ Wrote (now (s .entry)) (now (s .exit)) (linksCut (read (now (s .entry))) e) ⌝ }
+{
+    let n = session::get(s, Field::Links, 0);
+    let mut l: u64 = 0;
+    while l <= n {
+        cut_link(s, e, l);
+        l += 1;
+    }
+}
+
+// The state of an event once it is destroyed: with the mark whether it had fired.
+fn retired_state(state: u64) -> u64
+    ensures { λ r. ⌜ r ≡ retired state ⌝ }
+{
+    if state == names::FIRED {
+        return names::DESTROYED_FIRED;
+    }
+    names::DESTROYED_UNFIRED
+}
+
+// Destroys event e. Internal: callers have shown the length, the handle and the links' count.
+pub fn destroy_event(s: &mut [u64], e: u64)
+    requires { ⌜ (words ≤ length (now s)) × (e ≤ 512) × (read (now s) Links 0 ≤ 2048) × NoMoreLinks (read (now s)) ⌝ }
+    ensures { λ r. ⌜ Wrote (now (s .entry)) (now (s .exit)) (destroyEvent (read (now (s .entry))) e) ⌝ }
+{
+    let state = session::get(s, Field::EventState, e as usize);
+    session::set(s, Field::EventState, e as usize, retired_state(state));
+    cut_links(s, e);
+}
+
+// Destroys the output event of task t, if it has one. Internal: callers have shown the length, the handles and a tidy session.
+fn destroy_output(s: &mut [u64], t: u64)
+    requires { ⌜ (words ≤ length (now s)) × (t ≤ 512) × Tidy (read (now s)) × OutputLow (read (now s)) t ⌝ }
+    ensures { λ r. ⌜ Wrote (now (s .entry)) (now (s .exit)) (outputDestroyed (read (now (s .entry))) t) ⌝ }
+{
+    if session::get(s, Field::TaskOutput, t as usize) == 1 {
+        destroy_event(s, t + 1);
+    }
+}
+
+// Destroys task t, and fires the finish events that waited for it. Internal, as `destroy_output` is.
+pub fn destroy_task(s: &mut [u64], t: u64)
+    requires { ⌜ (words ≤ length (now s)) × (t ≤ 512) × Tidy (read (now s)) × OutputLow (read (now s)) t ⌝ }
+    ensures { λ r. ⌜ Wrote (now (s .entry)) (now (s .exit)) (destroyTask (read (now (s .entry))) t) ⌝ }
+{
+    session::set(s, Field::TaskState, t as usize, names::TASK_DESTROYED);
+    destroy_output(s, t);
+    crate::finishing::fire_finished(s);
+}
+
+// The state of block b once it is destroyed: doomed while somebody holds it. Internal, as `is_held` is.
+fn fate_of(s: &[u64], b: u64) -> u64
+    requires { ⌜ (words ≤ length (now s)) × (read (now s) Objects 0 ≤ 512) × (b ≤ 512) × Active (read (now s)) ⌝ }
+    ensures { λ r. ⌜ r ≡ fate (read (now (s .entry))) b ⌝ }
+{
+    if crate::holds::is_held(s, b) {
+        return names::DOOMED;
+    }
+    names::BLOCK_DESTROYED
+}
+
+// Destroys block b for task t, which lets go of it first. Internal, as `let_go_block` is.
+pub fn destroy_block(s: &mut [u64], t: u64, b: u64)
+    requires { ⌜ (words ≤ length (now s)) × (read (now s) Objects 0 ≤ 512) × (t ≤ 512) × (1 ≤ b) × (b ≤ 512) × Doomed (read (now s)) × Active (read (now s)) ⌝ }
+    ensures { λ r. ⌜ Wrote (now (s .entry)) (now (s .exit)) (destroyBlock (read (now (s .entry))) t b) ⌝ }
+{
+    crate::letting::let_go_block(s, t, b);
+    let state = fate_of(s, b);
+    session::set(s, Field::BlockState, b as usize, state);
+}
+
+// Destroys object h for task t, by its kind. Internal: callers have shown the length, the handles, a tidy session, and what
+// `let_go_block` asks.
+pub fn destroy_object(s: &mut [u64], t: u64, h: u64)
+    requires { ⌜ (words ≤ length (now s)) × Tidy (read (now s)) × Doomed (read (now s)) × (t ≤ 512) × (1 ≤ h) × (h ≤ 512) × OutputLow (read (now s)) h × Active (read (now s)) ⌝ }
+    ensures { λ r. ⌜ Wrote (now (s .entry)) (now (s .exit)) (destroy (read (now (s .entry))) t h) ⌝ }
+{
+    let kind = session::get(s, Field::Kind, h as usize);
+    if kind == names::TEMPLATE {
+        session::set(
+            s,
+            Field::TemplateState,
+            h as usize,
+            names::TEMPLATE_DESTROYED,
+        );
+        return;
+    }
+    if kind == names::TASK {
+        destroy_task(s, h);
+        return;
+    }
+    if kind == names::EVENT {
+        destroy_event(s, h);
+        return;
+    }
+    destroy_block(s, t, h);
+}

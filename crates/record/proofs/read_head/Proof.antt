@@ -1,0 +1,43 @@
+-- `record::read_head` meets its contract, by the cases of the sheet's first number.
+use mathlib.Core.Path.{sym, _∙_}
+use Rattle.record.specs.SheetLaws.{head-cut, head-bad, head-one, head-other}
+use borrow.Author.Needs.{needs}
+use Rattle.record.proofs.read_head.Statement.{statement}
+use Rattle.record.proofs.read_head.Tie as tie
+
+read-requires : tie.Need-read-requires
+read-requires c κs = search needs
+
+enum-told : tie.Need-enum-told
+enum-told c = search needs
+
+enum-told-2 : tie.Need-enum-told-2
+enum-told-2 c = search needs
+
+enum-known-version : tie.Need-enum-known-version
+enum-known-version c = search needs
+
+returns : tie.Need-returns
+returns c = sym (head-cut _ (sym (c .before .before .read .ensures) ∙ c .enum-told .given .1))
+
+returns-2 : tie.Need-returns-2
+returns-2 c = sym (head-bad _ _ (sym (c .before .before .read .ensures) ∙ c .enum-told2 .given .1))
+
+returns-3 : tie.Need-returns-3
+returns-3 c = sym (head-one _ _ _ (sym (c .before .before .before .before .read .ensures) ∙ c .before .before .version .given .1) (c .if1 .taken))
+
+returns-4 : tie.Need-returns-4
+returns-4 c = sym (head-other _ _ _ (sym (c .before .before .before .before .read .ensures) ∙ c .before .before .version .given .1) (c .if1 .left))
+
+pub read-head-spec : {M : Type 1} → statement M
+read-head-spec =
+    tie.close
+    (tie.spec
+    read-requires
+    enum-told
+    enum-told-2
+    enum-known-version
+    returns
+    returns-2
+    returns-3
+    returns-4)

@@ -1,0 +1,9 @@
+pub mod Reading
+pub mod Writing
+pub mod Sheet
+pub mod Refusals
+pub mod Fields
+pub mod Cases
+pub mod Laws
+pub mod SheetLaws
+pub mod Edges

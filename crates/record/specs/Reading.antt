@@ -1,0 +1,117 @@
+-- A record of a sheet, read at a place: an operation's code, then its fields (document 01, "Why an operation is turned down"
+-- and "Sheets and lines"). All of it follows from the sheet's bytes and the place alone.
+use Prim.Native.Nat.{ℕ, zero, suc}
+use mathlib.Core.List.{List, [], _∷_}
+use lib.Dec.{ltb}
+use lib.ListN.{getD}
+use Rattle.number.specs.Number.{limit32, readAt}
+use Rattle.number.specs.declared.Reading.{Reading}
+use Rattle.number.specs.declared.Reading.the-variants.{Value, Bad, CutShort}
+use Rattle.session.specs.Table.{pick}
+use Rattle.rules.specs.declared.Operation.{Operation}
+use Rattle.rules.specs.Arity.{fieldCounts, isCode}
+use Rattle.rules.specs.Checks.{Check, check, refusal}
+use Rattle.rules.specs.Formula.{Formula, not, choose, Formula._≐_, Formula.each}
+use Rattle.record.specs.declared.Record.{Record}
+use Rattle.record.specs.declared.Place.{Place}
+use Rattle.record.specs.declared.Place.the-variants.{Behind, Refused}
+
+-- "3. A number is cut short by the sheet's end. 4. A number is not in its shortest form or exceeds 4,294,967,295."
+unfoldable pub refusalOf : Reading → ℕ
+refusalOf (Value v next) = 0
+refusalOf (Bad next) = 4
+refusalOf CutShort = 3
+
+-- the value that was read, 0 if none was
+unfoldable pub valueOf : Reading → ℕ
+valueOf (Value v next) = v
+valueOf (Bad next) = 0
+valueOf CutShort = 0
+
+-- the place behind a number that was read at a place; one that is cut short has none, and the place stays
+unfoldable pub behind : ℕ → Reading → ℕ
+behind at (Value v next) = next
+behind at (Bad next) = next
+behind at CutShort = at
+
+-- The place behind the first k numbers from a place on, and the number that stands there.
+unfoldable pub place : List ℕ → ℕ → ℕ → ℕ
+place bytes at zero = at
+place bytes at (suc k) = behind (place bytes at k) (readAt limit32 bytes (place bytes at k))
+
+abbrev pub nth : List ℕ → ℕ → ℕ → Reading
+nth bytes at k = readAt limit32 bytes (place bytes at k)
+
+-- a number is not refused by this check
+abbrev pub clears : ℕ → Reading → Formula
+clears check r = not (refusalOf r ≐ check)
+
+-- a number meets 3, then 4, before the checks that follow
+abbrev pub numberChecks : Reading → List Check → List Check
+numberChecks r cs = check 3 (clears 3 r) ∷ check 4 (clears 4 r) ∷ cs
+
+-- how many fields an operation of a known code has
+abbrev pub fieldCount : ℕ → ℕ
+fieldCount code = getD fieldCounts code 0
+
+-- five fields: these at the first n places, and 0 at the others
+abbrev pub oneOf : ℕ → (ℕ → ℕ) → ℕ → ℕ
+oneOf n f k = pick (ltb k n) (f k) 0
+
+unfoldable pub five : ℕ → (ℕ → ℕ) → List ℕ
+five n f = oneOf n f 0 ∷ oneOf n f 1 ∷ oneOf n f 2 ∷ oneOf n f 3 ∷ oneOf n f 4 ∷ []
+
+-- an operation with n fields
+abbrev pub operation : ℕ → ℕ → (ℕ → ℕ) → Operation
+operation code n f = record { code = code; fields = five n f }
+
+-- What reading answers: an operation and the place behind it, or a refusal and nothing else.
+abbrev pub refusedRecord : ℕ → Record
+refusedRecord n = record { refused = n; operation = operation 0 0 (λ k. 0); next = 0 }
+
+unfoldable pub answered : ℕ → Operation → ℕ → Record
+answered n op next = choose (n ≐ 0) (record { refused = 0; operation = op; next = next }) (refusedRecord n)
+
+-- The place behind what was read or written, or the refusal.
+unfoldable pub placed : ℕ → ℕ → Place
+placed n next = choose (n ≐ 0) (Behind next) (Refused n)
+
+-- such an answer in document 01's numbers: the refusal, 0 if there is none, and the place
+unfoldable pub refusedBy : Place → ℕ
+refusedBy (Behind next) = 0
+refusedBy (Refused n) = n
+
+unfoldable pub placeOf : Place → ℕ
+placeOf (Behind next) = next
+placeOf (Refused n) = 0
+
+module _ (bytes : List ℕ) where
+  -- "Each check covers all fields before the next check": the n fields that stand from a place on.
+  abbrev pub fieldChecks : ℕ → ℕ → List Check
+  fieldChecks first n =
+      check 3 (each n (λ k. clears 3 (nth bytes first k))) ∷ check 4 (each n (λ k. clears 4 (nth bytes first k))) ∷ []
+
+  abbrev pub operationAt : ℕ → ℕ → ℕ → Operation
+  operationAt code first n = operation code n (λ k. valueOf (nth bytes first k))
+
+  unfoldable pub fieldsAt : ℕ → ℕ → ℕ → Record
+  fieldsAt code first n = answered (refusal (fieldChecks first n)) (operationAt code first n) (place bytes first n)
+
+  -- a record's code, the place of its first field, and how many fields it has
+  abbrev pub codeAt : ℕ → ℕ
+  codeAt at = valueOf (readAt limit32 bytes at)
+
+  abbrev pub firstField : ℕ → ℕ
+  firstField at = behind at (readAt limit32 bytes at)
+
+  abbrev pub countAt : ℕ → ℕ
+  countAt at = fieldCount (codeAt at)
+
+  -- "a record's code meets 3, 4 and 6 before its fields are read, as it says how many they are"
+  abbrev pub recordChecks : ℕ → List Check
+  recordChecks at =
+      numberChecks (readAt limit32 bytes at) (check 6 (isCode (codeAt at)) ∷ fieldChecks (firstField at) (countAt at))
+
+  unfoldable pub recordAt : ℕ → Record
+  recordAt at =
+      answered (refusal (recordChecks at)) (operationAt (codeAt at) (firstField at) (countAt at)) (place bytes (firstField at) (countAt at))

@@ -1,0 +1,90 @@
+use Rattle.sound.specs.Bodies.{isDelivered}
+use Rattle.sound.specs.Bools.{test-both, test-le}
+use Rattle.sound.specs.Whole.{slots-held}
+use Rattle.laws.specs.SlotPlaces.{few-slots}
+use Rattle.rules.specs.Sound.{states, blocks, compatible, latches, dropped}
+use Rattle.rules.specs.Formula.{count, Formula._and_}
+use Rattle.session.specs.declared.Field.the-variants.{Links, Dropped}
+use Rattle.session.specs.Table.{read}
+use native.Mathlib.Omega.{arith}
+use mathlib.Core.Path.{_≡_, refl, sym, _∙_, ap}
+use Prim.Native.Nat.{ℕ, _+_, _-_, _*_, _/_, _≤_, _<_}
+use borrow.Author.Needs.{needs}
+use Rattle.sound.proofs.are_uses.Statement.{statement}
+use Rattle.sound.proofs.are_uses.Tie as tie
+use Rattle.sound.proofs.are_uses.Reads as reads
+use Rattle.sound.proofs.are_uses.Lts as lts
+use Rattle.session.proofs.get.Reads as get-reads
+use Rattle.sound.proofs.blocks.are_blocks.Reads as are-blocks-reads
+use Rattle.sound.proofs.blocks.held_marks.Reads as held-marks-reads
+use Rattle.sound.proofs.holders.are_compatible.Reads as are-compatible-reads
+use Rattle.sound.proofs.links.count_delivered.Reads as count-delivered-reads
+use Rattle.sound.proofs.objects.are_latches.Reads as are-latches-reads
+use Rattle.sound.proofs.tasks.are_states.Reads as are-states-reads
+
+-- src/lib.rt:51:15
+held-marks-requires : tie.Need-held-marks-requires
+held-marks-requires c κs = search needs
+
+-- src/lib.rt:52:9
+count-delivered-requires : tie.Need-count-delivered-requires
+count-delivered-requires c κs = search needs
+
+-- src/lib.rt:53:16
+are-latches-requires : tie.Need-are-latches-requires
+are-latches-requires c κs = search needs
+
+-- src/lib.rt:53:46
+get-requires : tie.Need-get-requires
+get-requires c κs = search needs
+
+-- src/lib.rt:54:5
+are-states-requires : tie.Need-are-states-requires
+are-states-requires c κs =
+    let x = c .before .before .before .before .before in
+    let p = x .pre in
+    let s = read (x .args .s .now) in
+    (p .0, p .1 .few-objects, λ h l. few-slots s (p .2 .it .0) h (omega (arith, l, p .1 .objects)))
+
+-- src/lib.rt:54:32
+are-blocks-requires : tie.Need-are-blocks-requires
+are-blocks-requires c κs =
+    let p = c .before .before .before .before .before .before .before .pre in
+    (p .0, p .1 .few-objects, rw (p .1 .objects) at (c .before .before .before .before .before .held-marks .ensures))
+
+-- src/lib.rt:54:66
+are-compatible-requires : tie.Need-are-compatible-requires
+are-compatible-requires c κs =
+    let x = c .before .before .before .before .before .before .before .before in
+    let p = x .pre in
+    let q = p .1 in
+    let s = read (x .args .s .now) in
+    (p .0, q .few-objects, λ i l m. slots-held s (p .2 .it .0) (omega (arith, q .objects, q .few-objects)) (p .3 .it) i (omega (arith, l, q .objects)) m)
+
+-- src/lib.rt:47:1
+returns : tie.Need-returns
+returns c =
+    let x = c .before .before .before .before .before .before .before .before .before in
+    let s = read (x .args .s .now) in
+    let q = x .pre .1 in
+    rw (c .are-compatible .ensures, c .before .are-blocks .ensures, c .before .before .before .are-states .ensures, c .before .before .before .before .get .ensures, c .before .before .before .before .before .are-latches .ensures, c .before .before .before .before .before .before .count-delivered .ensures, q .objects, q .links)
+    (sym (test-both (states s) (blocks s and compatible s and latches s and dropped s)
+    ∙ rw (
+      test-both (blocks s) (compatible s and latches s and dropped s),
+      test-both (compatible s) (latches s and dropped s),
+      test-both (latches s) (dropped s),
+      test-le (s Dropped 0) (count (s Links 0 + 1) (isDelivered s)),
+    )))
+
+pub are-uses-spec : {M : Type 1} → statement M
+are-uses-spec =
+    tie.close
+    (tie.spec
+    held-marks-requires
+    count-delivered-requires
+    are-latches-requires
+    get-requires
+    are-states-requires
+    are-blocks-requires
+    are-compatible-requires
+    returns)

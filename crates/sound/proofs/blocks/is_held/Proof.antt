@@ -1,0 +1,42 @@
+use Rattle.sound.specs.Held.{heldBy}
+use Rattle.sound.specs.Bools.{chosen, test-either, test-eq}
+use Rattle.rules.specs.Reading.{slotHolds}
+use Rattle.rules.specs.Formula.{Formula._≐_, Formula.some}
+use Rattle.session.specs.declared.Field.the-variants.{Objects, BlockHeld}
+use lib.ListN.{getD}
+use Rattle.session.specs.Table.{read}
+use native.Mathlib.Omega.{arith}
+use mathlib.Core.Path.{_≡_, refl, sym, _∙_, ap}
+use Prim.Native.Nat.{ℕ, _+_, _-_, _*_, _/_, _≤_, _<_}
+use borrow.Author.Needs.{needs}
+use Rattle.sound.proofs.blocks.is_held.Statement.{statement}
+use Rattle.sound.proofs.blocks.is_held.Tie as tie
+use Rattle.sound.proofs.blocks.is_held.Reads as reads
+use Rattle.sound.proofs.blocks.is_held.Lts as lts
+use Rattle.sound.proofs.places.of_object.Reads as of-object-reads
+
+-- src/blocks.rt:57:16
+of-object-requires : tie.Need-of-object-requires
+of-object-requires c κs = search needs
+
+-- src/blocks.rt:59:6
+mul-result : tie.Need-mul-result
+mul-result c = search needs
+
+-- src/blocks.rt:59:6
+element-copy-out-result : tie.Need-element-copy-out-result
+element-copy-out-result c = search needs
+
+-- src/blocks.rt:53:1
+returns : tie.Need-returns
+unfolding heldBy
+returns c =
+    let x = c .before .before .before in
+    let a = x .args in
+    let s = read (a .s .now) in
+    let f = some (16 * (s Objects 0 + 1)) (slotHolds s (a .b)) in
+    let q = chosen (getD (a .row .now) (a .b) 0) f (x .pre .2 .entry (a .b) (omega arith)) in
+    rw (c .before .of-object .ensures, q) (sym (test-either f (s BlockHeld (a .b) ≐ 1) ∙ rw (test-eq (s BlockHeld (a .b)) 1)))
+
+pub is-held-spec : {M : Type 1} → statement M
+is-held-spec = tie.close (tie.spec of-object-requires mul-result element-copy-out-result returns)

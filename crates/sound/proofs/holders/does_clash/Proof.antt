@@ -1,0 +1,74 @@
+use Rattle.sound.specs.Holders.{clashes-found}
+use Rattle.laws.specs.SlotPlaces.{place-owner}
+use Rattle.session.specs.declared.Field.the-variants.{SlotPayload}
+use Rattle.session.specs.Table.{read}
+use native.Mathlib.Omega.{arith}
+use mathlib.Core.Path.{_≡_, refl, sym, _∙_, ap}
+use Prim.Native.Nat.{ℕ, _+_, _-_, _*_, _/_, _≤_, _<_}
+use borrow.Author.Needs.{needs}
+use Rattle.sound.proofs.holders.does_clash.Statement.{statement}
+use Rattle.sound.proofs.holders.does_clash.Tie as tie
+use Rattle.sound.proofs.holders.does_clash.Reads as reads
+use Rattle.sound.proofs.holders.does_clash.Lts as lts
+use Rattle.rules.proofs.conflicts.Reads as conflicts-reads
+use Rattle.sound.proofs.holders.is_other.Reads as is-other-reads
+use Rattle.sound.proofs.places.of_slot.Reads as of-slot-reads
+
+-- src/holders.rt:56:9
+of-slot-requires : tie.Need-of-slot-requires
+of-slot-requires c κs = search needs
+
+-- src/holders.rt:57:9
+of-slot-requires-2 : tie.Need-of-slot-requires-2
+of-slot-requires-2 c κs = search needs
+
+-- src/holders.rt:59:14
+conflicts-requires : tie.Need-conflicts-requires
+conflicts-requires c κs = search needs
+
+-- src/holders.rt:59:50
+is-other-requires : tie.Need-is-other-requires
+is-other-requires c κs = search needs
+
+-- src/holders.rt:60:14
+conflicts-requires-2 : tie.Need-conflicts-requires-2
+conflicts-requires-2 c κs = search needs
+
+-- src/holders.rt:60:50
+is-other-requires-2 : tie.Need-is-other-requires-2
+is-other-requires-2 c κs = search needs
+
+-- src/holders.rt:61:20
+conflicts-requires-3 : tie.Need-conflicts-requires-3
+conflicts-requires-3 c κs = search needs
+
+-- src/holders.rt:61:59
+is-other-requires-3 : tie.Need-is-other-requires-3
+is-other-requires-3 c κs = search needs
+
+-- src/holders.rt:52:1
+returns : tie.Need-returns
+returns c =
+    let x = c .before .before .before .before .before .before .before .before .before in
+    let a = x .args in
+    let s = read (a .s .now) in
+    let h = x .pre .2 in
+    let e = c .before .before .before .before .before .before .before .of-slot .ensures in
+    let t : a .i / 16 < 513 = place-owner 513 (a .i) (x .pre .1) in
+    let u : a .i / 16 ≤ 512 = omega arith in
+    rw (c .before .before .before .before .before .conflicts .ensures, c .before .before .before .conflicts2 .ensures, c .before .conflicts3 .ensures, c .before .before .before .before .before .before .of-slot2 .ensures)
+    (clashes-found s (a .i) _ _ _ (c .before .before .before .before .is-other .ensures ∙ rw e (x .pre .3 .says (s SlotPayload (a .i)) 1 (a .i / 16) (h .block) (omega arith) u)) (c .before .before .is-other2 .ensures ∙ rw e (x .pre .3 .says (s SlotPayload (a .i)) 2 (a .i / 16) (h .block) (omega arith) u)) (c .is-other3 .ensures ∙ rw e (x .pre .3 .says (s SlotPayload (a .i)) 3 (a .i / 16) (h .block) (omega arith) u)))
+
+pub does-clash-spec : {M : Type 1} → statement M
+does-clash-spec =
+    tie.close
+    (tie.spec
+    of-slot-requires
+    of-slot-requires-2
+    conflicts-requires
+    is-other-requires
+    conflicts-requires-2
+    is-other-requires-2
+    conflicts-requires-3
+    is-other-requires-3
+    returns)

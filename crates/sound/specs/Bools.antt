@@ -1,0 +1,68 @@
+-- The test of a formula by the connectives on Booleans, as code computes them.
+use Prim.Native.Nat.{ℕ, suc}
+use mathlib.Core.Path.{_≡_, refl, sym, _∙_}
+use mathlib.Core.Bool.{Bool, true, false, _&&_, _||_, not}
+use lib.Dec.{eqb, leb, ltb}
+use Rattle.session.specs.Table.{pick}
+use Rattle.rules.specs.FormulaLaws.{Case, decide, passes, fails, Case.it-does, Case.it-does-not}
+use Rattle.rules.specs.Formula.{Formula, holds, test, choose, Formula._≐_, Formula._≼_, Formula._and_, Formula._or_, Formula._then_, Formula.never}
+
+pub test-eq : (a b : ℕ) → test (a ≐ b) ≡ eqb a b
+unfolding test
+test-eq a b = refl
+
+pub test-le : (a b : ℕ) → test (a ≼ b) ≡ leb a b
+unfolding test
+test-le a b = refl
+
+pub test-both : (f g : Formula) → test (f and g) ≡ (test f && test g)
+unfolding test
+test-both f g = go (test f) (test g)
+  where
+    go : (a b : Bool) → elim a as (λ _. Bool) [ true ↦ b | false ↦ false ] ≡ (a && b)
+    go true b = refl
+    go false b = refl
+
+pub test-either : (f g : Formula) → test (f or g) ≡ (test f || test g)
+unfolding test
+test-either f g = go (test f) (test g)
+  where
+    go : (a b : Bool) → elim a as (λ _. Bool) [ true ↦ true | false ↦ b ] ≡ (a || b)
+    go true b = refl
+    go false b = refl
+
+pub test-implies : (f g : Formula) → test (f then g) ≡ (not (test f) || test g)
+unfolding test
+test-implies f g = go (test f) (test g)
+  where
+    go : (a b : Bool) → elim a as (λ _. Bool) [ true ↦ b | false ↦ true ] ≡ (not a || b)
+    go true b = refl
+    go false b = refl
+
+pub test-not : (f : Formula) → test (f then never) ≡ not (test f)
+unfolding test
+test-not f = go (test f)
+  where
+    go : (a : Bool) → elim a as (λ _. Bool) [ true ↦ false | false ↦ true ] ≡ not a
+    go true = refl
+    go false = refl
+
+pub test-lt : (a b : ℕ) → test (suc a ≼ b) ≡ ltb a b
+unfolding test
+test-lt a b = refl
+
+-- two formulas that say the same have the same test
+pub test-same : (f g : Formula) → (holds f → holds g) → (holds g → holds f) → test f ≡ test g
+test-same f g to from = go (decide f)
+  where
+    go : Case f → test f ≡ test g
+    go (it-does x) = passes f x ∙ sym (passes g (to x))
+    go (it-does-not n) = fails f n ∙ sym (fails g (λ y. n (from y)))
+
+-- a mark that is 1 where a formula holds, else 0
+pub chosen : (x : ℕ) (f : Formula) → x ≡ choose f 1 0 → eqb x 1 ≡ test f
+chosen x f e = rw e (go (test f))
+  where
+    go : (b : Bool) → eqb (pick b 1 0) 1 ≡ b
+    go true = refl
+    go false = refl

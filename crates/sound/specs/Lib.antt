@@ -1,0 +1,8 @@
+pub mod Bools
+pub mod Loops
+pub mod Bodies
+pub mod Row
+pub mod LinkOf
+pub mod Held
+pub mod Holders
+pub mod Whole

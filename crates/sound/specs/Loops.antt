@@ -1,0 +1,38 @@
+-- What a loop over places makes of `each`, `some` and `count`: nothing seen yet, and one place more.
+use Prim.Native.Nat.{ℕ, suc, zero, _+_, _≤_, _<_}
+use mathlib.Core.Path.{_≡_, refl, sym, _∙_}
+use mathlib.Core.Bool.{Bool, true, false, _&&_, _||_}
+use native.Mathlib.Numerals.{add-one}
+use Rattle.rules.specs.Formula.{Formula, test, count, choose, allOf, anyOf, Formula.each, Formula.some}
+
+pub each-none : (f : ℕ → Formula) → test (each 0 f) ≡ true
+unfolding test
+each-none f = refl
+
+pub each-more : (n : ℕ) (f : ℕ → Formula) → test (each (n + 1) f) ≡ (test (f n) && test (each n f))
+unfolding test
+each-more n f = rw add-one (go (test (f n)) (test (each n f)))
+  where
+    go : (a b : Bool) → elim a as (λ _. Bool) [ true ↦ b | false ↦ false ] ≡ (a && b)
+    go true b = refl
+    go false b = refl
+
+pub some-none : (f : ℕ → Formula) → test (some 0 f) ≡ false
+unfolding test
+some-none f = refl
+
+pub some-more : (n : ℕ) (f : ℕ → Formula) → test (some (n + 1) f) ≡ (test (f n) || test (some n f))
+unfolding test
+some-more n f = rw add-one (go (test (f n)) (test (some n f)))
+  where
+    go : (a b : Bool) → elim a as (λ _. Bool) [ true ↦ true | false ↦ b ] ≡ (a || b)
+    go true b = refl
+    go false b = refl
+
+pub count-none : (f : ℕ → Formula) → count 0 f ≡ 0
+unfolding count
+count-none f = refl
+
+pub count-more : (n : ℕ) (f : ℕ → Formula) → count (n + 1) f ≡ choose (f n) (1 + count n f) (count n f)
+unfolding count
+count-more n f = rw add-one

@@ -1,0 +1,114 @@
+-- The rules of a sound session, in the order in which the code looks at them.
+use Prim.Native.Nat.{ℕ, zero, suc, _+_, _*_, _/_, _%_, _≤_, _<_}
+use mathlib.Core.Path.{_≡_, refl, sym, _∙_, subst}
+use mathlib.Core.List.{List}
+use mathlib.Core.Logic.{_⊎_, inl, inr}
+use mathlib.Core.Bool.{Bool, true, false}
+use native.Mathlib.Omega.{arith}
+use lib.ListN.{length}
+use lib.Dec.{leb}
+use Rattle.session.specs.Table.{Session, read, words, pick}
+use Rattle.session.specs.declared.Field.the-variants.{Objects, Links, Kind, TaskSlots, SlotMode, SlotMark, SlotPayload}
+use Rattle.session.specs.Names.{held, task}
+use Rattle.rules.specs.Formula.{Formula, holds, test, Formula._≐_, Formula._≼_, Formula._and_, Formula._or_, Formula.each}
+use Rattle.rules.specs.Reading.{at}
+use Rattle.rules.specs.Sound.{isPayload, sound, soundUsed, counts, objects, roots, creators, outputs, slots, slot, unclaimed, claimed, links, oneLink, states, blocks, compatible, latches, dropped, unused}
+use Rattle.laws.specs.SlotPlaces.{place-split, place-low, place-owner}
+use Rattle.sound.specs.Bools.{test-same}
+use Rattle.sound.specs.LinkOf.{Linked}
+
+-- the answer on lent memory: memory that is too short is not sound
+unfoldable pub soundMemory : List ℕ → Bool
+soundMemory ws = pick (leb words (length ws)) (test (sound (read ws))) false
+
+-- the numbers of objects and links, as they were read
+pub record Counted (s : Session) (n m : ℕ) : Type 0 where
+  pub few-objects : n ≤ 512
+  pub few-links : m ≤ 2048
+  pub objects : n ≡ s Objects 0
+  pub links : m ≡ s Links 0
+
+-- a rule that was looked at and holds
+pub record Known (f : Formula) : Type 0 where
+  pub it : holds f
+
+module _ (s : Session) where
+  abbrev pub parts : Formula
+  parts = objects s and roots s and creators s and unused s
+
+  abbrev pub linkedUp : Formula
+  linkedUp = oneLink s and slots s
+
+  abbrev pub uses : Formula
+  uses = states s and blocks s and compatible s and latches s and dropped s
+
+  -- what is left to look at
+  abbrev pub fromSlots : Formula
+  fromSlots = linkedUp and uses
+
+  abbrev pub fromLinks : Formula
+  fromLinks = links s and fromSlots
+
+  abbrev pub fromOutputs : Formula
+  fromOutputs = outputs s and fromLinks
+
+  abbrev pub fromParts : Formula
+  fromParts = parts and fromOutputs
+
+  abbrev pub grouped : Formula
+  grouped = counts s and fromParts
+
+  pub sound-grouped : test grouped ≡ test (sound s)
+  unfolding sound soundUsed
+  sound-grouped = test-same grouped (sound s) to from
+    where
+      to : holds grouped → holds (sound s)
+      to x =
+          let p = x .1 .0 in
+          let r = x .1 .1 in
+          let l = r .1 .1 .0 in
+          ((x .0, (p .0, (p .1 .0, (p .1 .1 .0, (r .0, (l .1, (r .1 .0, (l .0, r .1 .1 .1)))))))), p .1 .1 .1)
+
+      from : holds (sound s) → holds grouped
+      from y =
+          let x = y .0 in
+          let r = x .1 .1 .1 .1 in
+          (x .0, ((x .1 .0, (x .1 .1 .0, (x .1 .1 .1 .0, y .1))), (r .0, (r .1 .1 .0, ((r .1 .1 .1 .0, r .1 .0), r .1 .1 .1 .1)))))
+
+  -- what a slot that is held is
+  pub record IsHeld (i : ℕ) : Type 0 where
+    pub block : s SlotPayload i < 513
+    pub mode-low : 1 ≤ s SlotMode i
+    pub mode-high : s SlotMode i ≤ 4
+    pub task-low : 1 ≤ i / 16
+
+  pub slots-held : holds (objects s) → s Objects 0 ≤ 512 → holds (slots s) → (i : ℕ) → i < 16 * (s Objects 0 + 1) → s SlotMark i ≡ held → IsHeld i
+  slots-held o b sl i l m = subst IsHeld (sym (place-split i)) (go (sl (i / 16) (place-owner (s Objects 0 + 1) i l) (i % 16) (place-low i)))
+    where
+      t : ℕ
+      t = i / 16
+
+      j : ℕ
+      j = i % 16
+
+      mark : s SlotMark (at t j) ≡ held
+      mark = subst (λ (k : ℕ). s SlotMark k ≡ held) (place-split i) m
+
+      owner : s Kind t ≡ task → 1 ≤ at t j / 16
+      owner k = subst (λ (p : ℕ). 1 ≤ p / 16) (place-split i) (go0 t refl)
+        where
+          go0 : (n : ℕ) → n ≡ t → 1 ≤ t
+          go0 zero e = let z : _≡_ {A = ℕ} 0 2 = sym (o .0) ∙ subst (λ (q : ℕ). s Kind q ≡ task) (sym e) k in absurd (omega arith)
+          go0 (suc n) e = omega arith
+
+      low : holds (isPayload s (s SlotPayload (at t j))) → s SlotPayload (at t j) < 513
+      low (inl e) = omega arith
+      low (inr x) = let q = x .0 .1 in omega arith
+
+      in-task : s Kind t ≡ task → holds (unclaimed s t j or claimed s t j) → IsHeld (at t j)
+      in-task k (inl x) = let z : s SlotMark (at t j) ≡ 0 = x .1 .0 in absurd (omega (arith, mark))
+      in-task k (inr x) = record { block = low (x .1 .1 .1 .0); mode-low = x .0; mode-high = x .1 .0; task-low = owner k }
+
+      go : holds (slot s t j) → IsHeld (at t j)
+      go (inl x) = in-task (x .0) (x .1 .1)
+      go (inr x) = let z : s SlotMark (at t j) ≡ 0 = x .1 .1 .0 in absurd (omega (arith, mark))

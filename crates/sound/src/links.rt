@@ -1,0 +1,108 @@
+// The rules about links, and about the slots that they lead to. Internal: callers have shown the memory's length.
+ghost use mathlib.Core.Path.{_≡_};
+ghost use Prim.Native.Nat.{ℕ, _+_, _*_, _<_, _≤_};
+ghost use lib.ListN.{length};
+ghost use Rattle.session.specs.Table.{read, words};
+ghost use Rattle.rules.specs.Formula.{test, count, Formula.each, Formula.some};
+ghost use Rattle.rules.specs.Reading.{hasSlot, isUserEvent};
+ghost use Rattle.rules.specs.Sound.{isLink};
+ghost use Rattle.sound.specs.Bodies.{linkAt, linkAgrees, isDelivered};
+use crate::places::is_made;
+use crate::places::of_link;
+use crate::places::of_object;
+use session::Field;
+use session::names;
+
+// Whether an object has a slot of that number.
+pub fn has_slot(s: &[u64], h: u64, j: u64) -> bool
+    requires { ⌜ words ≤ length (now s) ⌝ }
+    ensures { λ r. ⌜ r ≡ test (hasSlot (read (now (s .entry))) h j) ⌝ }
+{
+    let kind = of_object(s, Field::Kind, h);
+    let latch = of_object(s, Field::EventType, h) == names::LATCH;
+    (kind == names::TASK) & (j < of_object(s, Field::TaskSlots, h))
+        | (kind == names::EVENT) & ((j == 0) | latch & (j == 1))
+}
+
+// Whether an object is an event of type 1 to 4.
+pub fn is_user_event(s: &[u64], h: u64) -> bool
+    requires { ⌜ words ≤ length (now s) ⌝ }
+    ensures { λ r. ⌜ r ≡ test (isUserEvent (read (now (s .entry))) h) ⌝ }
+{
+    (of_object(s, Field::Kind, h) == names::EVENT)
+        & (of_object(s, Field::EventType, h) <= names::LATCH)
+}
+
+// A link's state is in range and agrees with its source's.
+fn does_link_agree(s: &[u64], l: u64) -> bool
+    requires { ⌜ words ≤ length (now s) ⌝ }
+    ensures { λ r. ⌜ r ≡ test (linkAgrees (read (now (s .entry))) l) ⌝ }
+{
+    let source = of_link(s, Field::LinkSource, l);
+    let state = of_link(s, Field::LinkState, l);
+    let event = of_object(s, Field::EventState, source);
+    let open = state == names::LINK_OPEN;
+    let source_open = event == names::OPEN;
+    let cut = state == names::CUT;
+    let source_cut = event == names::DESTROYED_UNFIRED;
+    let agrees = (!open | source_open)
+        & (!source_open | open)
+        & ((!cut | source_cut) & (!source_cut | cut));
+    (1 <= state) & ((state <= names::CUT) & agrees)
+}
+
+// A link leads from an event to a slot that there is, and its state agrees with the event's.
+fn is_link(s: &[u64], l: u64) -> bool
+    requires { ⌜ words ≤ length (now s) ⌝ }
+    ensures { λ r. ⌜ r ≡ test (isLink (read (now (s .entry))) l) ⌝ }
+{
+    let source = of_link(s, Field::LinkSource, l);
+    let target = of_link(s, Field::LinkTarget, l);
+    let slot = of_link(s, Field::LinkSlot, l);
+    let to = (of_object(s, Field::Kind, target) == names::TASK) | is_user_event(s, target);
+    let leads = is_made(s, target) & (to & (has_slot(s, target, slot) & does_link_agree(s, l)));
+    is_made(s, source) & ((of_object(s, Field::Kind, source) == names::EVENT) & leads)
+}
+
+fn is_link_or_null(s: &[u64], l: u64) -> bool
+    requires { ⌜ words ≤ length (now s) ⌝ }
+    ensures { λ r. ⌜ r ≡ test (linkAt (read (now (s .entry))) l) ⌝ }
+{
+    (l == 0) | is_link(s, l)
+}
+
+pub fn are_links(s: &[u64], n: u64) -> bool
+    requires { ⌜ (words ≤ length (now s)) × (n ≤ 2048) ⌝ }
+    ensures { λ r. ⌜ r ≡ test (each (n + 1) (linkAt (read (now (s .entry))))) ⌝ }
+{
+    let mut ok = true;
+    let mut l: u64 = 0;
+    while l <= n {
+        ok = is_link_or_null(s, l) & ok;
+        l += 1;
+    }
+    ok
+}
+
+fn is_delivered(s: &[u64], l: u64) -> bool
+    requires { ⌜ words ≤ length (now s) ⌝ }
+    ensures { λ r. ⌜ r ≡ test (isDelivered (read (now (s .entry))) l) ⌝ }
+{
+    of_link(s, Field::LinkState, l) == names::DELIVERED
+}
+
+// How many links are delivered.
+pub fn count_delivered(s: &[u64], n: u64) -> u64
+    requires { ⌜ (words ≤ length (now s)) × (n ≤ 2048) ⌝ }
+    ensures { λ r. ⌜ r ≡ count (n + 1) (isDelivered (read (now (s .entry)))) ⌝ }
+{
+    let mut count: u64 = 0;
+    let mut l: u64 = 0;
+    while l <= n {
+        if is_delivered(s, l) {
+            count += 1;
+        }
+        l += 1;
+    }
+    count
+}

@@ -1,0 +1,105 @@
+// The rule that unused parts are zero. Internal: callers have shown the memory's length.
+ghost use mathlib.Core.Path.{_≡_};
+ghost use Prim.Native.Nat.{ℕ, _+_, _*_, _<_, _≤_};
+ghost use lib.ListN.{length};
+ghost use Rattle.session.specs.Table.{read, words};
+ghost use Rattle.rules.specs.Formula.{test, Formula.each, Formula.some};
+ghost use Rattle.rules.specs.Reading.{at};
+ghost use Rattle.rules.specs.Sound.{noLink, noSlot, unused};
+ghost use Rattle.sound.specs.Bodies.{emptyObject, unusedObject, unusedLink, noSlotOf};
+use crate::objects::block_part;
+use crate::objects::event_part;
+use crate::objects::task_part;
+use crate::objects::template_part;
+use crate::places::of_link;
+use crate::places::of_object;
+use crate::places::of_slot;
+use session::Field;
+
+pub fn is_no_slot(s: &[u64], i: u64) -> bool
+    requires { ⌜ words ≤ length (now s) ⌝ }
+    ensures { λ r. ⌜ r ≡ test (noSlot (read (now (s .entry))) i) ⌝ }
+{
+    let payload = of_slot(s, Field::SlotPayload, i);
+    (of_slot(s, Field::SlotMode, i) == 0) & ((of_slot(s, Field::SlotMark, i) == 0) & (payload == 0))
+}
+
+fn are_no_slots(s: &[u64], h: u64) -> bool
+    requires { ⌜ (words ≤ length (now s)) × (h ≤ 512) ⌝ }
+    ensures { λ r. ⌜ r ≡ test (each 16 (noSlotOf (read (now (s .entry))) h)) ⌝ }
+{
+    let mut ok = true;
+    let mut j: u64 = 0;
+    while j < 16 {
+        ok = is_no_slot(s, h * 16 + j) & ok;
+        j += 1;
+    }
+    ok
+}
+
+fn is_empty(s: &[u64], h: u64) -> bool
+    requires { ⌜ (words ≤ length (now s)) × (h ≤ 512) ⌝ }
+    ensures { λ r. ⌜ r ≡ test (emptyObject (read (now (s .entry))) h) ⌝ }
+{
+    let parts = event_part(s, h) & (block_part(s, h) & are_no_slots(s, h));
+    (of_object(s, Field::Kind, h) == 0) & (template_part(s, h) & (task_part(s, h) & parts))
+}
+
+fn is_unused(s: &[u64], h: u64) -> bool
+    requires { ⌜ (words ≤ length (now s)) × (h ≤ 512) ⌝ }
+    ensures { λ r. ⌜ r ≡ test (unusedObject (read (now (s .entry))) h) ⌝ }
+{
+    if h <= session::get(s, Field::Objects, 0) {
+        return true;
+    }
+    is_empty(s, h)
+}
+
+fn are_unused(s: &[u64]) -> bool
+    requires { ⌜ words ≤ length (now s) ⌝ }
+    ensures { λ r. ⌜ r ≡ test (each 513 (unusedObject (read (now (s .entry))))) ⌝ }
+{
+    let mut ok = true;
+    let mut h: u64 = 0;
+    while h < 513 {
+        ok = is_unused(s, h) & ok;
+        h += 1;
+    }
+    ok
+}
+
+fn is_no_link(s: &[u64], l: u64) -> bool
+    requires { ⌜ words ≤ length (now s) ⌝ }
+    ensures { λ r. ⌜ r ≡ test (noLink (read (now (s .entry))) l) ⌝ }
+{
+    let target = of_link(s, Field::LinkTarget, l);
+    let ends = (of_link(s, Field::LinkSlot, l) == 0) & (of_link(s, Field::LinkState, l) == 0);
+    (of_link(s, Field::LinkSource, l) == 0) & ((target == 0) & ends)
+}
+
+fn is_unused_link(s: &[u64], l: u64) -> bool
+    requires { ⌜ words ≤ length (now s) ⌝ }
+    ensures { λ r. ⌜ r ≡ test (unusedLink (read (now (s .entry))) l) ⌝ }
+{
+    !(session::get(s, Field::Links, 0) < l) | is_no_link(s, l)
+}
+
+fn are_unused_links(s: &[u64]) -> bool
+    requires { ⌜ words ≤ length (now s) ⌝ }
+    ensures { λ r. ⌜ r ≡ test (each 2049 (unusedLink (read (now (s .entry))))) ⌝ }
+{
+    let mut ok = true;
+    let mut l: u64 = 0;
+    while l < 2049 {
+        ok = is_unused_link(s, l) & ok;
+        l += 1;
+    }
+    ok
+}
+
+pub fn is_rest_unused(s: &[u64]) -> bool
+    requires { ⌜ words ≤ length (now s) ⌝ }
+    ensures { λ r. ⌜ r ≡ test (unused (read (now (s .entry)))) ⌝ }
+{
+    is_no_link(s, 0) & (are_unused(s) & are_unused_links(s))
+}

@@ -1,0 +1,155 @@
+#!/usr/bin/env python3
+"""make_cases.py [--check]: writes the computed cases of crates/cases from the second engine's lists and answers.
+
+The second engine (tests/second, built with `cargo build --release`) draws lists of calls and answers them; each becomes
+one declaration of antt, closed by `refl`, that the rules answer the same and, for some lists, keep more than that:
+  Answers*.antt      60 calls: the answers
+  SoundAlong*.antt   25 calls: the answers, and that the session is sound after each call
+  DemandAlong*.antt  60 calls, then moves until nothing moves: the answers, and the claims of demand 3
+With --check it writes nothing and says whether the files are as it would write them.
+"""
+import os
+import re
+import subprocess
+import sys
+
+ROOT = os.path.dirname(os.path.dirname(os.path.abspath(__file__)))
+SPECS = os.path.join(ROOT, 'crates', 'cases', 'specs')
+BUILT = os.path.join(ROOT, 'tests', 'second', 'target', 'release')
+MOST_IN_A_SHEET = 2 ** 32 - 1
+MADE = re.compile(r'(Answers|SoundAlong|DemandAlong)\d+\.antt')
+
+# The kinds of case: file, what it shows, the claim, calls drawn, lists to a file, seeds. The first thirteen seeds of
+# Answers meet between them every pair of operation and refusal that lists of 60 calls meet at the seeds below 1,500
+# (refusals 19 to 21 need longer ones). The others were taken for few objects and many kinds of call.
+KINDS = [
+    ('Answers', 'the answers', 'answered freshSession', 60, 7,
+     [292, 923, 354, 1459, 636, 62, 2, 31, 80, 164, 267, 315, 440, 1, 3, 4, 5, 6, 7, 8, 9]),
+    ('SoundAlong', 'the answers, and a sound session after each call', 'soundAlong freshSession', 25, 5,
+     [925, 1156, 2361, 2784, 3168, 3296, 3991, 4356, 4415, 6252]),
+    ('DemandAlong', 'the answers, and the claims of demand 3', 'demandAlong freshSession opening', 60, 5,
+     [775, 1194, 1405, 1701, 1909, 3804, 4320, 6031, 6552, 6677]),
+]
+
+HEAD = """-- Made by `python3 tests/make_cases.py` from lists and answers of the second engine: edit that and not this file.
+-- Each list of calls is that of its seed: %s.
+use mathlib.Core.Path.{_≡_, refl}
+use mathlib.Core.Bool.{true}
+use mathlib.Core.List.{[], _∷_}
+use Rattle.rules.specs.Step.{freshSession}
+%suse Rattle.cases.specs.Along.{line, %s}
+"""
+
+
+def output(program, words, given=b''):
+    run = subprocess.run([os.path.join(BUILT, program)] + words, input=given, stdout=subprocess.PIPE, check=True)
+    return run.stdout.decode().splitlines()
+
+
+def drawn(seed, calls):
+    """The calls of a seed with their answers: code, fields, refusal, made."""
+    lines = []
+    for line in output('generate-ops', [str(seed), str(calls)]):
+        call, answer = line.split(' -> ')
+        code, *fields = [int(word) for word in call.split()]
+        lines.append((code, fields) + tuple(int(word) for word in answer.split()))
+    return lines
+
+
+def number(n):
+    """Document 01's number: groups of seven bits, lowest first, high bit set on all but the last byte."""
+    groups = bytearray()
+    while n >= 128:
+        groups.append(n % 128 + 128)
+        n //= 128
+    groups.append(n)
+    return bytes(groups)
+
+
+def answered(calls):
+    """The calls with the answers that the second engine's sheet program gives."""
+    sheet = number(1) + b''.join(number(n) for code, fields in calls for n in [code] + fields)
+    lines = [[int(word) for word in line.split()] for line in output('sheet', [], sheet)]
+    assert len(lines) == len(calls) + 1, 'the sheet ended early'
+    return [(code, fields, refused, made) for (code, fields), (_, refused, made) in zip(calls, lines)]
+
+
+def is_for_sheets(lines):
+    return all(1 <= code <= 12 and max(fields) <= MOST_IN_A_SHEET for code, fields, _, _ in lines)
+
+
+def made_by(lines):
+    """How many objects and links there are after the calls: a task with output makes two objects."""
+    objects = 2 + sum(1 + (code == 2 and fields[4]) for code, fields, _, made in lines if code < 5 and made)
+    return objects, sum(1 for code, _, _, made in lines if code == 5 and made)
+
+
+def drained(lines):
+    """The list, and after it moves, each accepted, until no move is accepted."""
+    while True:
+        calls = [(code, fields) for code, fields, _, _ in lines]
+        objects, links = made_by(lines)
+        moves = [(9, [n]) for n in range(1, links + 1)]
+        moves += [move for t in range(1, objects + 1) for move in [(10, [t]), (11, [t]), (12, [t, 0])]]
+        tried = answered(calls + moves)
+        assert tried[:len(lines)] == lines, 'the generator and the sheet program disagree'
+        accepted = [line for line in tried[len(lines):] if line[2] == 0]
+        if not accepted:
+            return lines
+        lines = lines + accepted
+
+
+def listed(name, seed, calls):
+    lines = drawn(seed, calls)
+    if name != 'DemandAlong':
+        return lines
+    assert is_for_sheets(lines), 'seed %d has calls that no sheet can have' % seed
+    return drained(lines)
+
+
+def case(formula, seed, lines):
+    rows = ['line %d (%s) %d %d' % (code, ' ∷ '.join([str(n) for n in fields] + ['[]']), refused, made)
+            for code, fields, refused, made in lines]
+    return '\nseed%d : %s (\n    %s\n    ∷ []) ≡ true\nunfolding %s\nseed%d = refl\n' % (
+        seed, formula, '\n    ∷ '.join(rows), formula.split()[0], seed)
+
+
+def files():
+    """Every file's name and text."""
+    for name, shows, formula, calls, to_a_file, seeds in KINDS:
+        book = 'use Rattle.rules.specs.Book.{opening}\n' if 'opening' in formula else ''
+        for k in range(0, len(seeds), to_a_file):
+            text = HEAD % (shows, book, formula.split()[0])
+            text += ''.join(case(formula, seed, listed(name, seed, calls)) for seed in seeds[k:k + to_a_file])
+            yield '%s%d' % (name, k // to_a_file + 1), text
+
+
+def standing():
+    """The files of cases that stand there now."""
+    names = [name for name in os.listdir(SPECS) if name == 'Lib.antt' or MADE.fullmatch(name)]
+    return {name[:-5]: open(os.path.join(SPECS, name), encoding='utf-8').read() for name in names}
+
+
+def main():
+    made = dict(files())
+    made['Lib'] = ''.join('pub mod %s\n' % name for name in ['Along', 'Listing'] + list(made))
+    old = standing()
+    changed = [name for name in made if old.get(name) != made[name]] + [name for name in old if name not in made]
+    if '--check' in sys.argv:
+        for name in changed:
+            print('not as made: crates/cases/specs/%s.antt' % name)
+        print('%d passed, %d failed' % (max(len(made) - len(changed), 0), len(changed)))
+        return 1 if changed else 0
+    for name in changed:
+        path = os.path.join(SPECS, name + '.antt')
+        if name not in made:
+            os.remove(path)
+            continue
+        with open(path, 'w', encoding='utf-8') as file:
+            file.write(made[name])
+    print('%d files of cases, %d of them written or removed' % (len(made), len(changed)))
+    return 0
+
+
+if __name__ == '__main__':
+    sys.exit(main())
