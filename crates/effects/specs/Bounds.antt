@@ -8,8 +8,8 @@ use native.Mathlib.Decide.{decLt}
 use borrow.Author.Tests.{le-ltb}
 use Rattle.session.specs.Table.{Session, read, size}
 use Rattle.session.specs.declared.Field.{Field}
-use Rattle.session.specs.declared.Field.the-variants.{Objects, Links, Dropped, Kind, TaskSlots, EventType, EventTally, LinkSource, LinkTarget, LinkSlot, LinkState}
-use Rattle.session.specs.Names.{mostObjects, mostLinks, task, event, latch, topTally, delivered}
+use Rattle.session.specs.declared.Field.the-variants.{Links, Kind, EventType, EventTally, LinkSource, LinkTarget, LinkSlot, LinkState}
+use Rattle.session.specs.Names.{mostObjects, task, event, latch, topTally, delivered}
 use Rattle.rules.specs.Formula.{Formula, holds, count, Formula._≐_, Formula._or_}
 use Rattle.rules.specs.FormulaLaws.{Case, decide, Case.it-does, Case.it-does-not}
 use Rattle.rules.specs.Reading.{made, isKind, isUserEvent, hasSlot, overflows}

@@ -1,10 +1,10 @@
 -- What a dependence asks of a session, and what a claim leaves alone.
 use Prim.Native.Nat.{ℕ, _≤_, _<_}
-use mathlib.Core.Path.{_≡_, refl, sym}
+use mathlib.Core.Path.{_≡_}
 use Rattle.session.specs.Table.{Session, put, at}
 use Rattle.session.specs.declared.Field.the-variants.{Links, Kind, SlotMode}
 use Rattle.session.specs.Names.{mostObjects, mostLinks, task, event, fired, ready, linkOpen}
-use Rattle.rules.specs.Formula.{choose, holds, Formula._≐_}
+use Rattle.rules.specs.Formula.{choose, Formula._≐_}
 use Rattle.rules.specs.FormulaLaws.{Case, decide, choose-yes, choose-no, Case.it-does, Case.it-does-not}
 use Rattle.rules.specs.Reading.{isKind}
 use Rattle.rules.specs.Effects.{claim}

@@ -93,8 +93,8 @@ pub fn run_block(s: &mut [u64], caller: u64, hold: u64) -> u64
     h
 }
 
-// The link that a dependence on a source makes, 0 if it makes none. Internal: callers have shown the length, the handle and,
-// for a link, the room.
+// The link that a dependence on a source makes, 0 if it makes none. Internal: callers have shown the length, the handle and
+// the count of links.
 fn next_link(s: &[u64], source: u64) -> u64
     requires { ⌜ (words ≤ length (now s)) × (source ≤ 512) × (read (now s) Links 0 ≤ 2048) ⌝ }
     ensures { λ r. ⌜ r ≡ linkMade (read (now (s .entry))) source ⌝ }

@@ -1,11 +1,11 @@
 -- What each rule of a sound session says at one place, so that its loop's body can be named.
-use Prim.Native.Nat.{ℕ, suc, _+_, _*_, _-_, _/_}
+use Prim.Native.Nat.{ℕ, suc, _+_, _-_, _/_}
 use Rattle.session.specs.Table.{Session}
-use Rattle.session.specs.declared.Field.the-variants.{Objects, Links, Dropped, Kind, TaskState, TaskCreator, TaskSlots, TaskFinish, TaskOutput, EventState, EventType, EventPayload, EventTally, BlockState, BlockCreator, BlockHeld, SlotMode, SlotMark, SlotPayload, LinkSource, LinkTarget, LinkSlot, LinkState}
+use Rattle.session.specs.declared.Field.the-variants.{Objects, Links, Kind, TaskState, TaskFinish, TaskOutput, EventState, EventType, EventTally, BlockState, BlockCreator, BlockHeld, SlotMode, SlotMark, SlotPayload, LinkSource, LinkState}
 use Rattle.session.specs.Names.{ended, linkOpen, cut, eventOpen, destroyedUnfired, taskDestroyed, task, event, block, granted, running, fired, destroyedFired, doomed, blockDestroyed, delivered, latch, output, held, evenTally, modeRW}
-use Rattle.rules.specs.Formula.{Formula, not, _iff_, Formula._≐_, Formula._≼_, Formula._and_, Formula._or_, Formula._then_, Formula.each, Formula.some}
+use Rattle.rules.specs.Formula.{Formula, not, _iff_, Formula._≐_, Formula._≼_, Formula._and_, Formula._or_, Formula._then_, Formula.each}
 use Rattle.rules.specs.Reading.{at, isKind, isHeld, conflict, busy}
-use Rattle.rules.specs.Sound.{templatePart, taskPart, eventPart, blockPart, creator, outputOf, leadsTo, isLink, noLink, noSlot, state}
+use Rattle.rules.specs.Sound.{templatePart, taskPart, eventPart, blockPart, creator, outputOf, isLink, noLink, noSlot, state}
 
 module _ (s : Session) where
   abbrev pub object : ℕ → Formula
@@ -31,9 +31,6 @@ module _ (s : Session) where
 
   abbrev pub linkAt : ℕ → Formula
   linkAt l = l ≐ 0 or isLink s l
-
-  abbrev pub notTwice : ℕ → ℕ → Formula
-  notTwice l k = isKind s task (s LinkTarget l) then not (leadsTo s (s LinkTarget l) (s LinkSlot l) k)
 
   abbrev pub isFull : ℕ → ℕ → Formula
   isFull t j = 1 ≼ s SlotMark (at t j)

@@ -1,18 +1,15 @@
 -- Which blocks some slot holds, kept in a row of marks.
-use Prim.Native.Nat.{ℕ, _+_, _*_, _≤_, _<_}
-use mathlib.Core.Path.{_≡_, refl, sym, _∙_, subst}
+use Prim.Native.Nat.{ℕ, _+_, _<_}
+use mathlib.Core.Path.{_≡_, refl, subst}
 use mathlib.Core.List.{List}
-use mathlib.Core.Logic.{_⊎_, inl, inr}
-use mathlib.Core.Bool.{Bool, _||_}
 use native.Mathlib.Omega.{arith}
 use lib.ListN.{set}
-use lib.Dec.{eqb}
 use Rattle.session.specs.Table.{Session}
-use Rattle.session.specs.declared.Field.the-variants.{Objects, SlotMark, SlotPayload, BlockHeld}
+use Rattle.session.specs.declared.Field.the-variants.{SlotMark, SlotPayload}
 use Rattle.session.specs.Names.{held}
-use Rattle.rules.specs.Formula.{Formula, holds, test, choose, Formula._≐_, Formula.some}
+use Rattle.rules.specs.Formula.{Formula, holds, choose, Formula.some}
 use Rattle.rules.specs.FormulaLaws.{choose-yes, choose-no}
-use Rattle.rules.specs.Reading.{slotHolds, isHeld}
+use Rattle.rules.specs.Reading.{slotHolds}
 use Rattle.ancestors.specs.Above.{choose-same}
 use Rattle.laws.specs.Places.{Places, places, Places.one, Places.two}
 use Rattle.sound.specs.Row.{Row, row-set, row-same}

@@ -1,8 +1,8 @@
 -- Which task holds a block in a mode: 0 if none does, a task, or 513 if more than one do. So conflicts are found in one pass.
-use Prim.Native.Nat.{ℕ, suc, _+_, _*_, _/_, _-_, _≤_, _<_}
+use Prim.Native.Nat.{ℕ, _+_, _*_, _/_, _-_, _≤_, _<_}
 use mathlib.Core.Path.{_≡_, refl, sym, _∙_, subst, ap}
 use mathlib.Core.List.{List}
-use mathlib.Core.Logic.{_⊎_, inl, inr}
+use mathlib.Core.Logic.{inl, inr}
 use mathlib.Core.Bool.{Bool, true, false, _&&_, _||_, not}
 use native.Mathlib.Omega.{arith}
 use lib.ListN.{set, getD, length, length-set}
@@ -10,11 +10,11 @@ use lib.Seq.{getD-set-same, getD-set-other}
 use lib.Dec.{eqb}
 use borrow.Author.Tests.{eq-eqb, ne-eqb}
 use Rattle.session.specs.Table.{Session, pick}
-use Rattle.session.specs.declared.Field.the-variants.{Objects, SlotMode, SlotMark, SlotPayload}
+use Rattle.session.specs.declared.Field.the-variants.{SlotMode, SlotMark, SlotPayload}
 use Rattle.session.specs.Names.{held}
-use Rattle.rules.specs.Formula.{Formula, holds, test, Formula._≐_, Formula._≼_, Formula._and_, Formula._or_, Formula._then_, Formula.each, Formula.some}
+use Rattle.rules.specs.Formula.{Formula, holds, test, Formula._≐_, Formula._and_, Formula._or_, Formula.each, Formula.some}
 use Rattle.rules.specs.Formula as formula
-use Rattle.rules.specs.FormulaLaws.{passes, fails, passed, failed}
+use Rattle.rules.specs.FormulaLaws.{passes, fails}
 use Rattle.rules.specs.Reading.{conflict}
 use Rattle.rules.specs.Conflicts.{conflict-modes, Writes}
 use Rattle.laws.specs.Places.{Places, places, Places.one, Places.two}
@@ -33,9 +33,6 @@ isOther w t = not (eqb w 0) && not (eqb w t)
 -- the holder noted once task u holds too
 unfoldable pub joined : ℕ → ℕ → ℕ
 joined w u = pick (eqb w 0) u (pick (eqb w u) u 513)
-
-eq-yes : (a : ℕ) → eqb a a ≡ true
-eq-yes a = eq-eqb a a refl
 
 joined-other : (w u t : ℕ) → 1 ≤ u → u ≤ 512 → t ≤ 512 → isOther (joined w u) t ≡ (not (eqb u t) || isOther w t)
 unfolding joined

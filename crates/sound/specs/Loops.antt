@@ -1,9 +1,9 @@
 -- What a loop over places makes of `each`, `some` and `count`: nothing seen yet, and one place more.
-use Prim.Native.Nat.{ℕ, suc, zero, _+_, _≤_, _<_}
-use mathlib.Core.Path.{_≡_, refl, sym, _∙_}
+use Prim.Native.Nat.{ℕ, _+_}
+use mathlib.Core.Path.{_≡_, refl}
 use mathlib.Core.Bool.{Bool, true, false, _&&_, _||_}
 use native.Mathlib.Numerals.{add-one}
-use Rattle.rules.specs.Formula.{Formula, test, count, choose, allOf, anyOf, Formula.each, Formula.some}
+use Rattle.rules.specs.Formula.{Formula, test, count, choose, Formula.each, Formula.some}
 
 pub each-none : (f : ℕ → Formula) → test (each 0 f) ≡ true
 unfolding test

@@ -2,20 +2,19 @@
 use Prim.Native.Nat.{ℕ, zero, suc, _+_, _*_, _/_, _%_, _≤_, _<_}
 use mathlib.Core.Path.{_≡_, refl, sym, _∙_, subst}
 use mathlib.Core.List.{List}
-use mathlib.Core.Logic.{_⊎_, inl, inr}
-use mathlib.Core.Bool.{Bool, true, false}
+use mathlib.Core.Logic.{inl, inr}
+use mathlib.Core.Bool.{Bool, false}
 use native.Mathlib.Omega.{arith}
 use lib.ListN.{length}
 use lib.Dec.{leb}
 use Rattle.session.specs.Table.{Session, read, words, pick}
-use Rattle.session.specs.declared.Field.the-variants.{Objects, Links, Kind, TaskSlots, SlotMode, SlotMark, SlotPayload}
+use Rattle.session.specs.declared.Field.the-variants.{Objects, Links, Kind, SlotMode, SlotMark, SlotPayload}
 use Rattle.session.specs.Names.{held, task}
-use Rattle.rules.specs.Formula.{Formula, holds, test, Formula._≐_, Formula._≼_, Formula._and_, Formula._or_, Formula.each}
+use Rattle.rules.specs.Formula.{Formula, holds, test, Formula._and_, Formula._or_}
 use Rattle.rules.specs.Reading.{at}
 use Rattle.rules.specs.Sound.{isPayload, sound, soundUsed, counts, objects, roots, creators, outputs, slots, slot, unclaimed, claimed, links, oneLink, states, blocks, compatible, latches, dropped, unused}
 use Rattle.laws.specs.SlotPlaces.{place-split, place-low, place-owner}
 use Rattle.sound.specs.Bools.{test-same}
-use Rattle.sound.specs.LinkOf.{Linked}
 
 -- the answer on lent memory: memory that is too short is not sound
 unfoldable pub soundMemory : List ℕ → Bool

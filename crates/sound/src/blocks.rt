@@ -1,6 +1,6 @@
 // The rules about blocks and who holds them. Internal: callers have shown the memory's length.
 ghost use mathlib.Core.Path.{_≡_};
-ghost use Prim.Native.Nat.{ℕ, _+_, _*_, _<_, _≤_};
+ghost use Prim.Native.Nat.{_+_, _*_, _≤_};
 ghost use lib.ListN.{length};
 ghost use Rattle.session.specs.Table.{read, words};
 ghost use Rattle.session.specs.declared.Field.the-variants.{Objects};

@@ -1,7 +1,7 @@
 // Whether lent memory holds a sound session (document 01, "A sound session"; check 2). Words may be any numbers.
 // The rules are looked at in an order in which each finds what it needs of the earlier ones, and each in one pass.
 ghost use mathlib.Core.Path.{_≡_};
-ghost use Prim.Native.Nat.{ℕ, _+_, _*_, _<_, _≤_};
+ghost use Prim.Native.Nat.{_≤_};
 ghost use lib.ListN.{length};
 ghost use Rattle.session.specs.Table.{read, words};
 ghost use Rattle.session.specs.declared.Field.the-variants.{Objects};
@@ -12,14 +12,14 @@ ghost use Rattle.sound.specs.Whole.{Counted, Known, soundMemory, parts, 
 use session::Field;
 use session::names;
 
-pub mod blocks;
-pub mod holders;
-pub mod links;
-pub mod objects;
-pub mod places;
-pub mod slots;
-pub mod tasks;
-pub mod unused;
+mod blocks;
+mod holders;
+mod links;
+mod objects;
+mod places;
+mod slots;
+mod tasks;
+mod unused;
 
 // The rules about objects by themselves, and that unused parts are zero. Internal: callers have shown the counts.
 fn are_parts(s: &[u64], n: u64) -> bool

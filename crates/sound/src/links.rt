@@ -1,9 +1,9 @@
 // The rules about links, and about the slots that they lead to. Internal: callers have shown the memory's length.
 ghost use mathlib.Core.Path.{_≡_};
-ghost use Prim.Native.Nat.{ℕ, _+_, _*_, _<_, _≤_};
+ghost use Prim.Native.Nat.{_+_, _≤_};
 ghost use lib.ListN.{length};
 ghost use Rattle.session.specs.Table.{read, words};
-ghost use Rattle.rules.specs.Formula.{test, count, Formula.each, Formula.some};
+ghost use Rattle.rules.specs.Formula.{test, count, Formula.each};
 ghost use Rattle.rules.specs.Reading.{hasSlot, isUserEvent};
 ghost use Rattle.rules.specs.Sound.{isLink};
 ghost use Rattle.sound.specs.Bodies.{linkAt, linkAgrees, isDelivered};

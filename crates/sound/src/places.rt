@@ -1,9 +1,8 @@
 // Reading a session whose words may be any numbers. Internal: callers have shown the memory's length.
 ghost use mathlib.Core.Path.{_≡_};
-ghost use Prim.Native.Nat.{ℕ, _+_, _*_, _<_, _≤_, _-_};
+ghost use Prim.Native.Nat.{_≤_, _-_};
 ghost use lib.ListN.{length};
 ghost use Rattle.session.specs.Table.{read, words, size};
-ghost use Rattle.session.specs.declared.Field.the-variants.{Objects};
 ghost use Rattle.rules.specs.Formula.{test};
 ghost use Rattle.rules.specs.Reading.{made};
 ghost use Rattle.rules.specs.Sound.{isPayload};

@@ -1,13 +1,13 @@
 // The rules about tasks. Internal: callers have shown the memory's length.
 ghost use mathlib.Core.Path.{_≡_};
-ghost use Prim.Native.Nat.{ℕ, _+_, _*_, _<_, _≤_};
+ghost use Prim.Native.Nat.{ℕ, _+_, _<_, _≤_};
 ghost use lib.ListN.{length};
 ghost use Rattle.session.specs.Table.{read, words};
 ghost use Rattle.session.specs.declared.Field.the-variants.{TaskSlots};
-ghost use Rattle.rules.specs.Formula.{test, Formula.each, Formula.some};
+ghost use Rattle.rules.specs.Formula.{test, Formula.each};
 ghost use Rattle.rules.specs.Reading.{busy};
 ghost use Rattle.ancestors.specs.Above.{Shows};
-ghost use Rattle.rules.specs.Sound.{creator, state, outputOf};
+ghost use Rattle.rules.specs.Sound.{creator, outputOf};
 ghost use Rattle.sound.specs.Bodies.{creatorAt, isFull, holding, stateAt, outputAt, outputState};
 use crate::places::is_made;
 use crate::places::of_object;

@@ -1,10 +1,9 @@
 // The rule that unused parts are zero. Internal: callers have shown the memory's length.
 ghost use mathlib.Core.Path.{_≡_};
-ghost use Prim.Native.Nat.{ℕ, _+_, _*_, _<_, _≤_};
+ghost use Prim.Native.Nat.{_≤_};
 ghost use lib.ListN.{length};
 ghost use Rattle.session.specs.Table.{read, words};
-ghost use Rattle.rules.specs.Formula.{test, Formula.each, Formula.some};
-ghost use Rattle.rules.specs.Reading.{at};
+ghost use Rattle.rules.specs.Formula.{test, Formula.each};
 ghost use Rattle.rules.specs.Sound.{noLink, noSlot, unused};
 ghost use Rattle.sound.specs.Bodies.{emptyObject, unusedObject, unusedLink, noSlotOf};
 use crate::objects::block_part;

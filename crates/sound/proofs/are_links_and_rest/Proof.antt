@@ -1,23 +1,16 @@
-use Rattle.sound.specs.Whole.{fromSlots}
+use mathlib.Core.Path.{sym, _∙_}
+use borrow.Author.Needs.{needs}
+use Rattle.session.specs.Table.{read}
 use Rattle.rules.specs.Sound.{links}
 use Rattle.rules.specs.FormulaLaws.{passed, failed, fails, test-and}
 use Rattle.rules.specs.Formula.{Formula._and_}
-use Rattle.session.specs.Table.{read}
-use native.Mathlib.Omega.{arith}
-use mathlib.Core.Path.{_≡_, refl, sym, _∙_, ap}
-use borrow.Author.Needs.{needs}
+use Rattle.sound.specs.Whole.{fromSlots}
 use Rattle.sound.proofs.are_links_and_rest.Statement.{statement}
 use Rattle.sound.proofs.are_links_and_rest.Tie as tie
-use Rattle.sound.proofs.are_links_and_rest.Reads as reads
-use Rattle.sound.proofs.are_links_and_rest.Lts as lts
-use Rattle.sound.proofs.are_slots_and_uses.Reads as are-slots-and-uses-reads
-use Rattle.sound.proofs.links.are_links.Reads as are-links-reads
 
--- src/lib.rt:71:8
 are-links-requires : tie.Need-are-links-requires
 are-links-requires c κs = search needs
 
--- src/lib.rt:72:9
 are-slots-and-uses-requires : tie.Need-are-slots-and-uses-requires
 are-slots-and-uses-requires c κs =
     let x = c .before .before .before in
@@ -27,7 +20,6 @@ are-slots-and-uses-requires c κs =
     let k = passed (links s) (sym (rw (q .links) at (c .before .are-links .ensures)) ∙ c .if1 .taken) in
     (p .0, q, p .2, record { it = k })
 
--- src/lib.rt:72:9
 returns : tie.Need-returns
 returns c =
     let x = c .before .before .before .before in
@@ -35,7 +27,6 @@ returns c =
     let q = x .pre .1 in
     c .are-slots-and-uses .ensures ∙ sym (test-and (links s) (fromSlots s) (passed (links s) (sym (rw (q .links) at (c .before .before .are-links .ensures)) ∙ c .before .if1 .taken)))
 
--- src/lib.rt:67:1
 returns-2 : tie.Need-returns-2
 returns-2 c =
     let x = c .before .before .before in

@@ -1,20 +1,14 @@
-use Rattle.sound.specs.Whole.{fromLinks, fromOutputs}
+use mathlib.Core.Path.{sym, _∙_}
+use native.Mathlib.Omega.{arith}
+use borrow.Author.Needs.{needs}
+use Rattle.session.specs.Table.{read}
 use Rattle.rules.specs.Sound.{outputs}
 use Rattle.rules.specs.FormulaLaws.{passed, failed, fails, test-and}
 use Rattle.ancestors.specs.Above.{creators-fall}
-use Rattle.session.specs.Table.{read}
-use native.Mathlib.Omega.{arith}
-use mathlib.Core.Path.{_≡_, refl, sym, _∙_, ap}
-use borrow.Author.Needs.{needs}
+use Rattle.sound.specs.Whole.{fromLinks, fromOutputs}
 use Rattle.sound.proofs.are_outputs_and_rest.Statement.{statement}
 use Rattle.sound.proofs.are_outputs_and_rest.Tie as tie
-use Rattle.sound.proofs.are_outputs_and_rest.Reads as reads
-use Rattle.sound.proofs.are_outputs_and_rest.Lts as lts
-use Rattle.ancestors.proofs.busy_marks.Reads as busy-marks-reads
-use Rattle.sound.proofs.are_links_and_rest.Reads as are-links-and-rest-reads
-use Rattle.sound.proofs.tasks.are_outputs.Reads as are-outputs-reads
 
--- src/lib.rt:81:17
 busy-marks-requires : tie.Need-busy-marks-requires
 busy-marks-requires c κs =
     let p = c .before .pre in
@@ -22,15 +16,12 @@ busy-marks-requires c κs =
     let k = p .2 .it in
     (p .0, omega (arith, q .objects, q .few-objects), creators-fall (read (c .before .args .s .now)) (k .0) (k .1 .0) (k .1 .1 .0))
 
--- src/lib.rt:82:8
 are-outputs-requires : tie.Need-are-outputs-requires
 are-outputs-requires c κs = search needs
 
--- src/lib.rt:83:9
 are-links-and-rest-requires : tie.Need-are-links-and-rest-requires
 are-links-and-rest-requires c κs = search needs
 
--- src/lib.rt:83:9
 returns : tie.Need-returns
 returns c =
     let x = c .before .before .before .before .before .before in
@@ -38,7 +29,6 @@ returns c =
     let e = sym (rw (x .pre .1 .objects) at (c .before .before .are-outputs .ensures)) ∙ c .before .if1 .taken in
     c .are-links-and-rest .ensures ∙ sym (test-and (outputs s) (fromLinks s) (passed (outputs s) e))
 
--- src/lib.rt:77:1
 returns-2 : tie.Need-returns-2
 returns-2 c =
     let x = c .before .before .before .before .before in

@@ -1,22 +1,15 @@
-use Rattle.sound.specs.Whole.{parts, fromOutputs}
+use mathlib.Core.Path.{sym, _∙_}
+use borrow.Author.Needs.{needs}
+use Rattle.session.specs.Table.{read}
 use Rattle.rules.specs.FormulaLaws.{passed, failed, fails, test-and}
 use Rattle.rules.specs.Formula.{Formula._and_}
-use Rattle.session.specs.Table.{read}
-use native.Mathlib.Omega.{arith}
-use mathlib.Core.Path.{_≡_, refl, sym, _∙_, ap}
-use borrow.Author.Needs.{needs}
+use Rattle.sound.specs.Whole.{parts, fromOutputs}
 use Rattle.sound.proofs.are_parts_and_rest.Statement.{statement}
 use Rattle.sound.proofs.are_parts_and_rest.Tie as tie
-use Rattle.sound.proofs.are_parts_and_rest.Reads as reads
-use Rattle.sound.proofs.are_parts_and_rest.Lts as lts
-use Rattle.sound.proofs.are_outputs_and_rest.Reads as are-outputs-and-rest-reads
-use Rattle.sound.proofs.are_parts.Reads as are-parts-reads
 
--- src/lib.rt:92:8
 are-parts-requires : tie.Need-are-parts-requires
 are-parts-requires c κs = search needs
 
--- src/lib.rt:93:9
 are-outputs-and-rest-requires : tie.Need-are-outputs-and-rest-requires
 are-outputs-and-rest-requires c κs =
     let x = c .before .before .before in
@@ -26,7 +19,6 @@ are-outputs-and-rest-requires c κs =
     let k = passed (parts s) (sym (c .before .are-parts .ensures) ∙ c .if1 .taken) in
     (p .0, q, record { it = k })
 
--- src/lib.rt:93:9
 returns : tie.Need-returns
 returns c =
     let x = c .before .before .before .before in
@@ -34,7 +26,6 @@ returns c =
     let q = x .pre .1 in
     c .are-outputs-and-rest .ensures ∙ sym (test-and (parts s) (fromOutputs s) (passed (parts s) (sym (c .before .before .are-parts .ensures) ∙ c .before .if1 .taken)))
 
--- src/lib.rt:88:1
 returns-2 : tie.Need-returns-2
 returns-2 c =
     let x = c .before .before .before in

@@ -1,22 +1,15 @@
-use Rattle.sound.specs.Whole.{linkedUp, uses}
+use mathlib.Core.Path.{sym, _∙_}
+use borrow.Author.Needs.{needs}
+use Rattle.session.specs.Table.{read}
 use Rattle.rules.specs.FormulaLaws.{passed, failed, fails, test-and}
 use Rattle.rules.specs.Formula.{Formula._and_}
-use Rattle.session.specs.Table.{read}
-use native.Mathlib.Omega.{arith}
-use mathlib.Core.Path.{_≡_, refl, sym, _∙_, ap}
-use borrow.Author.Needs.{needs}
+use Rattle.sound.specs.Whole.{linkedUp, uses}
 use Rattle.sound.proofs.are_slots_and_uses.Statement.{statement}
 use Rattle.sound.proofs.are_slots_and_uses.Tie as tie
-use Rattle.sound.proofs.are_slots_and_uses.Reads as reads
-use Rattle.sound.proofs.are_slots_and_uses.Lts as lts
-use Rattle.sound.proofs.are_linked_up.Reads as are-linked-up-reads
-use Rattle.sound.proofs.are_uses.Reads as are-uses-reads
 
--- src/lib.rt:61:8
 are-linked-up-requires : tie.Need-are-linked-up-requires
 are-linked-up-requires c κs = search needs
 
--- src/lib.rt:62:9
 are-uses-requires : tie.Need-are-uses-requires
 are-uses-requires c κs =
     let x = c .before .before .before in
@@ -26,7 +19,6 @@ are-uses-requires c κs =
     let k = passed (linkedUp s) (sym (c .before .are-linked-up .ensures) ∙ c .if1 .taken) in
     (p .0, q, p .2, record { it = k .1 })
 
--- src/lib.rt:62:9
 returns : tie.Need-returns
 returns c =
     let x = c .before .before .before .before in
@@ -34,7 +26,6 @@ returns c =
     let q = x .pre .1 in
     c .are-uses .ensures ∙ sym (test-and (linkedUp s) (uses s) (passed (linkedUp s) (sym (c .before .before .are-linked-up .ensures) ∙ c .before .if1 .taken)))
 
--- src/lib.rt:57:1
 returns-2 : tie.Need-returns-2
 returns-2 c =
     let x = c .before .before .before in

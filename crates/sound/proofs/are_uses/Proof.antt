@@ -1,44 +1,30 @@
+use Prim.Native.Nat.{_+_}
+use mathlib.Core.Path.{sym, _∙_}
+use native.Mathlib.Omega.{arith}
+use borrow.Author.Needs.{needs}
+use Rattle.session.specs.declared.Field.the-variants.{Links, Dropped}
+use Rattle.session.specs.Table.{read}
+use Rattle.rules.specs.Sound.{states, blocks, compatible, latches, dropped}
+use Rattle.rules.specs.Formula.{count, Formula._and_}
+use Rattle.laws.specs.SlotPlaces.{few-slots}
 use Rattle.sound.specs.Bodies.{isDelivered}
 use Rattle.sound.specs.Bools.{test-both, test-le}
 use Rattle.sound.specs.Whole.{slots-held}
-use Rattle.laws.specs.SlotPlaces.{few-slots}
-use Rattle.rules.specs.Sound.{states, blocks, compatible, latches, dropped}
-use Rattle.rules.specs.Formula.{count, Formula._and_}
-use Rattle.session.specs.declared.Field.the-variants.{Links, Dropped}
-use Rattle.session.specs.Table.{read}
-use native.Mathlib.Omega.{arith}
-use mathlib.Core.Path.{_≡_, refl, sym, _∙_, ap}
-use Prim.Native.Nat.{ℕ, _+_, _-_, _*_, _/_, _≤_, _<_}
-use borrow.Author.Needs.{needs}
 use Rattle.sound.proofs.are_uses.Statement.{statement}
 use Rattle.sound.proofs.are_uses.Tie as tie
-use Rattle.sound.proofs.are_uses.Reads as reads
-use Rattle.sound.proofs.are_uses.Lts as lts
-use Rattle.session.proofs.get.Reads as get-reads
-use Rattle.sound.proofs.blocks.are_blocks.Reads as are-blocks-reads
-use Rattle.sound.proofs.blocks.held_marks.Reads as held-marks-reads
-use Rattle.sound.proofs.holders.are_compatible.Reads as are-compatible-reads
-use Rattle.sound.proofs.links.count_delivered.Reads as count-delivered-reads
-use Rattle.sound.proofs.objects.are_latches.Reads as are-latches-reads
-use Rattle.sound.proofs.tasks.are_states.Reads as are-states-reads
 
--- src/lib.rt:51:15
 held-marks-requires : tie.Need-held-marks-requires
 held-marks-requires c κs = search needs
 
--- src/lib.rt:52:9
 count-delivered-requires : tie.Need-count-delivered-requires
 count-delivered-requires c κs = search needs
 
--- src/lib.rt:53:16
 are-latches-requires : tie.Need-are-latches-requires
 are-latches-requires c κs = search needs
 
--- src/lib.rt:53:46
 get-requires : tie.Need-get-requires
 get-requires c κs = search needs
 
--- src/lib.rt:54:5
 are-states-requires : tie.Need-are-states-requires
 are-states-requires c κs =
     let x = c .before .before .before .before .before in
@@ -46,13 +32,11 @@ are-states-requires c κs =
     let s = read (x .args .s .now) in
     (p .0, p .1 .few-objects, λ h l. few-slots s (p .2 .it .0) h (omega (arith, l, p .1 .objects)))
 
--- src/lib.rt:54:32
 are-blocks-requires : tie.Need-are-blocks-requires
 are-blocks-requires c κs =
     let p = c .before .before .before .before .before .before .before .pre in
     (p .0, p .1 .few-objects, rw (p .1 .objects) at (c .before .before .before .before .before .held-marks .ensures))
 
--- src/lib.rt:54:66
 are-compatible-requires : tie.Need-are-compatible-requires
 are-compatible-requires c κs =
     let x = c .before .before .before .before .before .before .before .before in
@@ -61,7 +45,6 @@ are-compatible-requires c κs =
     let s = read (x .args .s .now) in
     (p .0, q .few-objects, λ i l m. slots-held s (p .2 .it .0) (omega (arith, q .objects, q .few-objects)) (p .3 .it) i (omega (arith, l, q .objects)) m)
 
--- src/lib.rt:47:1
 returns : tie.Need-returns
 returns c =
     let x = c .before .before .before .before .before .before .before .before .before in

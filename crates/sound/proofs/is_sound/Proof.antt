@@ -1,22 +1,16 @@
-use Rattle.sound.specs.Whole.{soundMemory}
 use borrow.Author.Tests.{le-leb, lt-leb}
 use borrow.Author.Needs.{needs}
+use Rattle.sound.specs.Whole.{soundMemory}
 use Rattle.sound.proofs.is_sound.Statement.{statement}
 use Rattle.sound.proofs.is_sound.Tie as tie
-use Rattle.sound.proofs.is_sound.Reads as reads
-use Rattle.sound.proofs.is_sound.Lts as lts
-use Rattle.sound.proofs.is_sound_session.Reads as is-sound-session-reads
 
--- src/lib.rt:116:9
 returns : tie.Need-returns
 unfolding soundMemory
 returns c = rw (lt-leb _ _ (c .if1 .taken))
 
--- src/lib.rt:118:5
 is-sound-session-requires : tie.Need-is-sound-session-requires
 is-sound-session-requires c κs = search needs
 
--- src/lib.rt:112:1
 returns-2 : tie.Need-returns-2
 unfolding soundMemory
 returns-2 c = rw (le-leb _ _ (c .before .if1 .left)) (c .is-sound-session .ensures)

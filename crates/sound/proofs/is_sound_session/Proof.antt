@@ -1,31 +1,22 @@
-use Rattle.sound.specs.Whole.{fromParts, grouped, sound-grouped}
+use mathlib.Core.Path.{sym, _∙_}
+use native.Mathlib.Omega.{arith}
+use borrow.Author.Needs.{needs}
+use Rattle.session.specs.Table.{read}
 use Rattle.rules.specs.Sound.{counts}
 use Rattle.rules.specs.FormulaLaws.{passed, failed, fails, test-and}
-use Rattle.session.specs.Table.{read}
-use native.Mathlib.Omega.{arith}
-use mathlib.Core.Path.{_≡_, refl, sym, _∙_, ap}
-use borrow.Author.Needs.{needs}
+use Rattle.sound.specs.Whole.{fromParts, grouped, sound-grouped}
 use Rattle.sound.proofs.is_sound_session.Statement.{statement}
 use Rattle.sound.proofs.is_sound_session.Tie as tie
-use Rattle.sound.proofs.is_sound_session.Reads as reads
-use Rattle.sound.proofs.is_sound_session.Lts as lts
-use Rattle.session.proofs.get.Reads as get-reads
-use Rattle.sound.proofs.are_parts_and_rest.Reads as are-parts-and-rest-reads
-use Rattle.sound.proofs.objects.are_counts.Reads as are-counts-reads
 
--- src/lib.rt:103:8
 are-counts-requires : tie.Need-are-counts-requires
 are-counts-requires c κs = search needs
 
--- src/lib.rt:104:13
 get-requires : tie.Need-get-requires
 get-requires c κs = search needs
 
--- src/lib.rt:105:13
 get-requires-2 : tie.Need-get-requires-2
 get-requires-2 c κs = search needs
 
--- src/lib.rt:106:9
 are-parts-and-rest-requires : tie.Need-are-parts-and-rest-requires
 are-parts-and-rest-requires c κs =
     let x = c .before .before .before .before .before in
@@ -35,7 +26,6 @@ are-parts-and-rest-requires c κs =
     let d = c .get2 .ensures in
     (x .pre, record { few-objects = omega (arith, e, k .1 .0); few-links = omega (arith, d, k .1 .1); objects = e; links = d })
 
--- src/lib.rt:106:9
 returns : tie.Need-returns
 returns c =
     let x = c .before .before .before .before .before .before in
@@ -43,7 +33,6 @@ returns c =
     let k = passed (counts s) (sym (c .before .before .before .before .are-counts .ensures) ∙ c .before .before .before .if1 .taken) in
     c .are-parts-and-rest .ensures ∙ sym (test-and (counts s) (fromParts s) k) ∙ sound-grouped s
 
--- src/lib.rt:99:1
 returns-2 : tie.Need-returns-2
 returns-2 c =
     let x = c .before .before .before in

@@ -1,16 +1,13 @@
+use Prim.Native.Nat.{_+_, _-_, _≤_}
+use mathlib.Core.Path.{_≡_, sym}
+use native.Mathlib.Omega.{arith}
+use borrow.Author.Needs.{needs}
+use Rattle.session.specs.Table.{read}
+use Rattle.rules.specs.Formula.{test, Formula.each}
 use Rattle.sound.specs.Bodies.{blockAt}
 use Rattle.sound.specs.Loops.{each-none, each-more}
-use Rattle.rules.specs.Formula.{test, Formula.each}
-use Rattle.session.specs.Table.{read}
-use borrow.Author.Needs.{needs}
-use native.Mathlib.Omega.{arith}
-use mathlib.Core.Path.{_≡_, sym}
-use Prim.Native.Nat.{ℕ, _+_, _-_, _*_, _≤_, _<_}
 use Rattle.sound.proofs.blocks.are_blocks.Statement.{statement}
 use Rattle.sound.proofs.blocks.are_blocks.Tie as tie
-use Rattle.sound.proofs.blocks.are_blocks.Reads as reads
-use Rattle.sound.proofs.blocks.are_blocks.Lts as lts
-use Rattle.sound.proofs.blocks.is_block.Reads as is-block-reads
 
 abbrev Inv-loop : tie.InvT-loop
 Inv-loop s row n ok₀ b₀ ok b = (b ≤ n + 1) × (ok ≡ test (each b (blockAt (read s))))
@@ -18,29 +15,23 @@ Inv-loop s row n ok₀ b₀ ok b = (b ≤ n + 1) × (ok ≡ test (each b (blockA
 abbrev μ-loop : tie.MeasureT-loop
 μ-loop s row n ok₀ b₀ ok b = n + 1 - b
 
--- src/blocks.rt:82:5
 loop-holds : tie.Need-loop-holds Inv-loop μ-loop
 loop-holds c = (omega arith, sym (each-none _))
 
--- src/blocks.rt:83:14
 is-block-requires : tie.Need-is-block-requires Inv-loop μ-loop
 is-block-requires c κs = search needs
 
--- src/blocks.rt:84:9
 add-b : tie.Need-add-b Inv-loop μ-loop
 add-b c = omega arith
 
--- src/blocks.rt:82:5
 loop-less : tie.Need-loop-less Inv-loop μ-loop
 loop-less c = omega arith
 
--- src/blocks.rt:82:5
 loop-again : tie.Need-loop-again Inv-loop μ-loop
 loop-again c =
     let l = c .before .before .loop in
     (omega arith, rw (c .is-block .ensures, l .inv .1) (sym (each-more (l .b) _)))
 
--- src/blocks.rt:76:1
 returns : tie.Need-returns Inv-loop μ-loop
 returns c =
     let l = c .before .loop in

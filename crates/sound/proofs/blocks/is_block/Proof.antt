@@ -1,37 +1,26 @@
-use Rattle.sound.specs.Bools.{test-not, test-implies, test-both, test-eq, test-le}
 use borrow.Author.Needs.{needs}
+use Rattle.sound.specs.Bools.{test-not, test-implies, test-both, test-eq, test-le}
 use Rattle.sound.proofs.blocks.is_block.Statement.{statement}
 use Rattle.sound.proofs.blocks.is_block.Tie as tie
-use Rattle.sound.proofs.blocks.is_block.Reads as reads
-use Rattle.sound.proofs.blocks.is_block.Lts as lts
-use Rattle.sound.proofs.blocks.is_held.Reads as is-held-reads
-use Rattle.sound.proofs.places.of_object.Reads as of-object-reads
 
--- src/blocks.rt:66:9
 of-object-requires : tie.Need-of-object-requires
 of-object-requires c κs = search needs
 
--- src/blocks.rt:67:34
 of-object-requires-2 : tie.Need-of-object-requires-2
 of-object-requires-2 c κs = search needs
 
--- src/blocks.rt:68:18
 of-object-requires-3 : tie.Need-of-object-requires-3
 of-object-requires-3 c κs = search needs
 
--- src/blocks.rt:69:9
 of-object-requires-4 : tie.Need-of-object-requires-4
 of-object-requires-4 c κs = search needs
 
--- src/blocks.rt:70:9
 is-held-requires : tie.Need-is-held-requires
 is-held-requires c κs = search needs
 
--- src/blocks.rt:72:7
 of-object-requires-5 : tie.Need-of-object-requires-5
 of-object-requires-5 c κs = search needs
 
--- src/blocks.rt:62:1
 returns : tie.Need-returns
 returns c = rw (c .of-object5 .ensures, c .before .is-held .ensures, c .before .before .of-object4 .ensures, c .before .before .before .of-object3 .ensures, c .before .before .before .before .of-object2 .ensures, c .before .before .before .before .before .of-object .ensures) (simp (test-not, test-implies, test-both, test-eq, test-le))
 

@@ -1,33 +1,26 @@
-use Rattle.sound.specs.Held.{heldBy}
-use Rattle.sound.specs.Bools.{chosen, test-either, test-eq}
+use Prim.Native.Nat.{_+_, _*_}
+use mathlib.Core.Path.{sym, _∙_}
+use native.Mathlib.Omega.{arith}
+use lib.ListN.{getD}
+use borrow.Author.Needs.{needs}
+use Rattle.session.specs.declared.Field.the-variants.{Objects, BlockHeld}
+use Rattle.session.specs.Table.{read}
 use Rattle.rules.specs.Reading.{slotHolds}
 use Rattle.rules.specs.Formula.{Formula._≐_, Formula.some}
-use Rattle.session.specs.declared.Field.the-variants.{Objects, BlockHeld}
-use lib.ListN.{getD}
-use Rattle.session.specs.Table.{read}
-use native.Mathlib.Omega.{arith}
-use mathlib.Core.Path.{_≡_, refl, sym, _∙_, ap}
-use Prim.Native.Nat.{ℕ, _+_, _-_, _*_, _/_, _≤_, _<_}
-use borrow.Author.Needs.{needs}
+use Rattle.sound.specs.Held.{heldBy}
+use Rattle.sound.specs.Bools.{chosen, test-either, test-eq}
 use Rattle.sound.proofs.blocks.is_held.Statement.{statement}
 use Rattle.sound.proofs.blocks.is_held.Tie as tie
-use Rattle.sound.proofs.blocks.is_held.Reads as reads
-use Rattle.sound.proofs.blocks.is_held.Lts as lts
-use Rattle.sound.proofs.places.of_object.Reads as of-object-reads
 
--- src/blocks.rt:57:16
 of-object-requires : tie.Need-of-object-requires
 of-object-requires c κs = search needs
 
--- src/blocks.rt:59:6
 mul-result : tie.Need-mul-result
 mul-result c = search needs
 
--- src/blocks.rt:59:6
 element-copy-out-result : tie.Need-element-copy-out-result
 element-copy-out-result c = search needs
 
--- src/blocks.rt:53:1
 returns : tie.Need-returns
 unfolding heldBy
 returns c =

@@ -1,14 +1,11 @@
+use Prim.Native.Nat.{_+_, _-_, _*_, _≤_}
+use mathlib.Core.Path.{_≡_, refl}
+use native.Mathlib.Omega.{arith}
+use Rattle.session.specs.Table.{read}
 use Rattle.sound.specs.Held.{heldBy, held-none}
 use Rattle.sound.specs.Row.{Row}
-use Rattle.session.specs.Table.{read}
-use native.Mathlib.Omega.{arith}
-use mathlib.Core.Path.{_≡_, refl, sym}
-use Prim.Native.Nat.{ℕ, _+_, _-_, _*_, _≤_, _<_}
 use Rattle.sound.proofs.blocks.mark_all_held.Statement.{statement}
 use Rattle.sound.proofs.blocks.mark_all_held.Tie as tie
-use Rattle.sound.proofs.blocks.mark_all_held.Reads as reads
-use Rattle.sound.proofs.blocks.mark_all_held.Lts as lts
-use Rattle.sound.proofs.blocks.mark_held.Reads as mark-held-reads
 
 abbrev Inv-loop : tie.InvT-loop
 Inv-loop s row₀ n end i₀ row i = (i ≤ end) × (end ≡ 16 * (n + 1)) × Row row 513 (heldBy (read s) i)
@@ -16,35 +13,27 @@ Inv-loop s row₀ n end i₀ row i = (i ≤ end) × (end ≡ 16 * (n + 1)) × Ro
 abbrev μ-loop : tie.MeasureT-loop
 μ-loop s row₀ n end i₀ row i = end - i
 
--- src/blocks.rt:34:21
 add-end : tie.Need-add-end Inv-loop μ-loop
 add-end c = omega arith
 
--- src/blocks.rt:34:15
 mul-end : tie.Need-mul-end Inv-loop μ-loop
 mul-end c = omega arith
 
--- src/blocks.rt:36:5
 loop-holds : tie.Need-loop-holds Inv-loop μ-loop
 loop-holds c = (omega arith, refl, held-none (read (c .before .args .s .now)) _ (c .before .pre .2))
 
--- src/blocks.rt:37:9
 mark-held-requires : tie.Need-mark-held-requires Inv-loop μ-loop
 mark-held-requires c κs = (c .before .before .before .before .pre .0, c .before .before .loop .inv .2)
 
--- src/blocks.rt:38:9
 add-i : tie.Need-add-i Inv-loop μ-loop
 add-i c = omega arith
 
--- src/blocks.rt:36:5
 loop-less : tie.Need-loop-less Inv-loop μ-loop
 loop-less c = omega arith
 
--- src/blocks.rt:36:5
 loop-again : tie.Need-loop-again Inv-loop μ-loop
 loop-again c = (omega arith, refl, c .mark-held .ensures)
 
--- src/blocks.rt:30:1
 returns : tie.Need-returns Inv-loop μ-loop
 returns c =
     let l = c .before .loop in

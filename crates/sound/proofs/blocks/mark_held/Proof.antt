@@ -1,33 +1,24 @@
-use Rattle.sound.specs.Held.{held-yes, held-no}
+use mathlib.Core.Path.{_≡_, sym, _∙_}
+use native.Mathlib.Omega.{arith}
+use borrow.Author.Needs.{needs}
 use Rattle.session.specs.declared.Field.the-variants.{SlotMark}
 use Rattle.session.specs.Table.{read}
-use native.Mathlib.Omega.{arith}
-use mathlib.Core.Path.{_≡_, refl, sym, _∙_, ap}
-use Prim.Native.Nat.{ℕ, _+_, _-_, _*_, _/_, _≤_, _<_}
-use borrow.Author.Needs.{needs}
+use Rattle.sound.specs.Held.{held-yes, held-no}
 use Rattle.sound.proofs.blocks.mark_held.Statement.{statement}
 use Rattle.sound.proofs.blocks.mark_held.Tie as tie
-use Rattle.sound.proofs.blocks.mark_held.Reads as reads
-use Rattle.sound.proofs.blocks.mark_held.Lts as lts
-use Rattle.sound.proofs.places.of_slot.Reads as of-slot-reads
 
--- src/blocks.rt:21:9
 of-slot-requires : tie.Need-of-slot-requires
 of-slot-requires c κs = search needs
 
--- src/blocks.rt:22:8
 of-slot-requires-2 : tie.Need-of-slot-requires-2
 of-slot-requires-2 c κs = search needs
 
--- src/blocks.rt:25:13
 mul-row : tie.Need-mul-row
 mul-row c = search needs
 
--- src/blocks.rt:25:13
 element-write-row : tie.Need-element-write-row
 element-write-row c = search needs
 
--- src/blocks.rt:17:1
 returns : tie.Need-returns
 returns c =
     let x = c .before .before .before .before .before in
@@ -37,7 +28,6 @@ returns c =
     let m : s SlotMark (a .i) ≡ 2 = sym (c .before .before .of-slot2 .ensures) ∙ c .before .if1 .taken in
     rw e (held-yes s (a .row .now) (a .i) (x .pre .1) m (rw e at (c .if2 .taken)))
 
--- src/blocks.rt:17:1
 returns-2 : tie.Need-returns-2
 returns-2 c =
     let x = c .before .before .before .before .before in
@@ -45,7 +35,6 @@ returns-2 c =
     let e = c .before .before .before .of-slot .ensures in
     held-no (read (a .s .now)) (a .row .now) (a .i) (x .pre .1) (λ m l. omega (arith, e, l, c .if2 .left))
 
--- src/blocks.rt:17:1
 returns-3 : tie.Need-returns-3
 returns-3 c =
     let x = c .before .before .before .before in

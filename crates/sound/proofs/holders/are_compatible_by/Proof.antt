@@ -1,17 +1,13 @@
+use Prim.Native.Nat.{_+_, _-_, _*_, _≤_}
+use mathlib.Core.Path.{_≡_, refl, sym}
+use native.Mathlib.Omega.{arith}
+use Rattle.session.specs.Table.{read}
+use Rattle.rules.specs.Formula.{test, Formula.each}
 use Rattle.sound.specs.Holders.{Holders, holders-none}
 use Rattle.sound.specs.Bodies.{compatibleAt}
 use Rattle.sound.specs.Loops.{each-none, each-more}
-use Rattle.rules.specs.Formula.{test, Formula.each}
-use Rattle.session.specs.Table.{read}
-use native.Mathlib.Omega.{arith}
-use mathlib.Core.Path.{_≡_, refl, sym}
-use Prim.Native.Nat.{ℕ, _+_, _-_, _*_, _≤_, _<_}
 use Rattle.sound.proofs.holders.are_compatible_by.Statement.{statement}
 use Rattle.sound.proofs.holders.are_compatible_by.Tie as tie
-use Rattle.sound.proofs.holders.are_compatible_by.Reads as reads
-use Rattle.sound.proofs.holders.are_compatible_by.Lts as lts
-use Rattle.sound.proofs.holders.is_compatible.Reads as is-compatible-reads
-use Rattle.sound.proofs.holders.note_holder.Reads as note-holder-reads
 
 abbrev Inv-loop : tie.InvT-loop
 Inv-loop s row₀ n end ok₀ i₀ row ok i = (i ≤ end) × (end ≡ 16 * (n + 1)) × (ok ≡ test (each i (compatibleAt (read s)))) × Holders (read s) row i
@@ -19,47 +15,38 @@ Inv-loop s row₀ n end ok₀ i₀ row ok i = (i ≤ end) × (end ≡ 16 * (n + 
 abbrev μ-loop : tie.MeasureT-loop
 μ-loop s row₀ n end ok₀ i₀ row ok i = end - i
 
--- src/holders.rt:94:21
 add-end : tie.Need-add-end Inv-loop μ-loop
 add-end c = omega arith
 
--- src/holders.rt:94:15
 mul-end : tie.Need-mul-end Inv-loop μ-loop
 mul-end c = omega arith
 
--- src/holders.rt:97:5
 loop-holds : tie.Need-loop-holds Inv-loop μ-loop
 loop-holds c = let p = c .before .pre in (omega arith, refl, sym (each-none _), holders-none (read (c .before .args .s .now)) _ (p .3 .size) (p .3 .entry))
 
--- src/holders.rt:98:14
 is-compatible-requires : tie.Need-is-compatible-requires Inv-loop μ-loop
 is-compatible-requires c κs =
     let p = c .before .before .before .before .pre in
     let l = c .before .before .loop in
     (p .0, omega arith, p .2 (l .i) (omega arith), l .inv .3)
 
--- src/holders.rt:99:9
 note-holder-requires : tie.Need-note-holder-requires Inv-loop μ-loop
 note-holder-requires c κs =
     let p = c .before .before .before .before .before .before .pre in
     let l = c .before .before .before .before .loop in
     (p .0, omega arith, p .2 (l .i) (omega arith), l .inv .3)
 
--- src/holders.rt:100:9
 add-i : tie.Need-add-i Inv-loop μ-loop
 add-i c = omega arith
 
--- src/holders.rt:97:5
 loop-less : tie.Need-loop-less Inv-loop μ-loop
 loop-less c = omega arith
 
--- src/holders.rt:97:5
 loop-again : tie.Need-loop-again Inv-loop μ-loop
 loop-again c =
     let l = c .before .before .before .before .before .loop in
     (omega arith, refl, rw (c .before .before .is-compatible .ensures, l .inv .2) (sym (each-more (l .i) _)), c .note-holder .ensures)
 
--- src/holders.rt:89:1
 returns : tie.Need-returns Inv-loop μ-loop
 returns c =
     let l = c .before .loop in

@@ -1,52 +1,38 @@
-use Rattle.sound.specs.Holders.{clashes-found}
-use Rattle.laws.specs.SlotPlaces.{place-owner}
+use Prim.Native.Nat.{_/_, _≤_, _<_}
+use mathlib.Core.Path.{_∙_}
+use native.Mathlib.Omega.{arith}
+use borrow.Author.Needs.{needs}
 use Rattle.session.specs.declared.Field.the-variants.{SlotPayload}
 use Rattle.session.specs.Table.{read}
-use native.Mathlib.Omega.{arith}
-use mathlib.Core.Path.{_≡_, refl, sym, _∙_, ap}
-use Prim.Native.Nat.{ℕ, _+_, _-_, _*_, _/_, _≤_, _<_}
-use borrow.Author.Needs.{needs}
+use Rattle.laws.specs.SlotPlaces.{place-owner}
+use Rattle.sound.specs.Holders.{clashes-found}
 use Rattle.sound.proofs.holders.does_clash.Statement.{statement}
 use Rattle.sound.proofs.holders.does_clash.Tie as tie
-use Rattle.sound.proofs.holders.does_clash.Reads as reads
-use Rattle.sound.proofs.holders.does_clash.Lts as lts
-use Rattle.rules.proofs.conflicts.Reads as conflicts-reads
-use Rattle.sound.proofs.holders.is_other.Reads as is-other-reads
-use Rattle.sound.proofs.places.of_slot.Reads as of-slot-reads
 
--- src/holders.rt:56:9
 of-slot-requires : tie.Need-of-slot-requires
 of-slot-requires c κs = search needs
 
--- src/holders.rt:57:9
 of-slot-requires-2 : tie.Need-of-slot-requires-2
 of-slot-requires-2 c κs = search needs
 
--- src/holders.rt:59:14
 conflicts-requires : tie.Need-conflicts-requires
 conflicts-requires c κs = search needs
 
--- src/holders.rt:59:50
 is-other-requires : tie.Need-is-other-requires
 is-other-requires c κs = search needs
 
--- src/holders.rt:60:14
 conflicts-requires-2 : tie.Need-conflicts-requires-2
 conflicts-requires-2 c κs = search needs
 
--- src/holders.rt:60:50
 is-other-requires-2 : tie.Need-is-other-requires-2
 is-other-requires-2 c κs = search needs
 
--- src/holders.rt:61:20
 conflicts-requires-3 : tie.Need-conflicts-requires-3
 conflicts-requires-3 c κs = search needs
 
--- src/holders.rt:61:59
 is-other-requires-3 : tie.Need-is-other-requires-3
 is-other-requires-3 c κs = search needs
 
--- src/holders.rt:52:1
 returns : tie.Need-returns
 returns c =
     let x = c .before .before .before .before .before .before .before .before .before in

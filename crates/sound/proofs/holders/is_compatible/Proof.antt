@@ -1,42 +1,30 @@
-use Rattle.sound.specs.Holders.{none-clashes}
-use Rattle.sound.specs.Bodies.{clash, clashMade}
-use Rattle.sound.specs.Bools.{test-both, test-not}
-use Rattle.rules.specs.FormulaLaws.{passes, test-then}
-use Rattle.rules.specs.Formula.{not, Formula._≐_, Formula._and_, Formula.each}
+use mathlib.Core.Path.{sym, _∙_}
+use borrow.Author.Needs.{needs}
 use Rattle.session.specs.Names.{held}
 use Rattle.session.specs.declared.Field.the-variants.{SlotMark}
 use Rattle.session.specs.Table.{read}
-use native.Mathlib.Omega.{arith}
-use mathlib.Core.Path.{_≡_, refl, sym, _∙_, ap}
-use Prim.Native.Nat.{ℕ, _+_, _-_, _*_, _/_, _≤_, _<_}
-use borrow.Author.Needs.{needs}
+use Rattle.rules.specs.FormulaLaws.{passes, test-then}
+use Rattle.rules.specs.Formula.{not, Formula._≐_, Formula._and_, Formula.each}
+use Rattle.sound.specs.Holders.{none-clashes}
+use Rattle.sound.specs.Bodies.{clash, clashMade}
+use Rattle.sound.specs.Bools.{test-both, test-not}
 use Rattle.sound.proofs.holders.is_compatible.Statement.{statement}
 use Rattle.sound.proofs.holders.is_compatible.Tie as tie
-use Rattle.sound.proofs.holders.is_compatible.Reads as reads
-use Rattle.sound.proofs.holders.is_compatible.Lts as lts
-use Rattle.sound.proofs.holders.clashes_with_maker.Reads as clashes-with-maker-reads
-use Rattle.sound.proofs.holders.does_clash.Reads as does-clash-reads
-use Rattle.sound.proofs.places.of_slot.Reads as of-slot-reads
 
--- src/holders.rt:69:8
 of-slot-requires : tie.Need-of-slot-requires
 of-slot-requires c κs = search needs
 
--- src/holders.rt:70:9
 returns : tie.Need-returns
 returns c = sym (passes _ (λ m. absurd (c .if1 .taken (c .before .of-slot .ensures ∙ m))))
 
--- src/holders.rt:72:6
 does-clash-requires : tie.Need-does-clash-requires
 does-clash-requires c κs =
     let p = c .before .before .before .pre in
     (p .0, p .1, p .2 (sym (c .before .of-slot .ensures) ∙ c .if1 .left), p .3)
 
--- src/holders.rt:72:31
 clashes-with-maker-requires : tie.Need-clashes-with-maker-requires
 clashes-with-maker-requires c κs = search needs
 
--- src/holders.rt:65:1
 returns-2 : tie.Need-returns-2
 returns-2 c =
     let a = c .before .before .before .before .before .args in

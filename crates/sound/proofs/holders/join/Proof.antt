@@ -1,21 +1,16 @@
-use Rattle.sound.specs.Holders.{joined}
 use borrow.Author.Tests.{eq-eqb, ne-eqb}
+use Rattle.sound.specs.Holders.{joined}
 use Rattle.sound.proofs.holders.join.Statement.{statement}
 use Rattle.sound.proofs.holders.join.Tie as tie
-use Rattle.sound.proofs.holders.join.Reads as reads
-use Rattle.sound.proofs.holders.join.Lts as lts
 
--- src/holders.rt:33:9
 returns : tie.Need-returns
 unfolding joined
 returns c = rw (eq-eqb _ _ (c .if1 .taken))
 
--- src/holders.rt:36:9
 returns-2 : tie.Need-returns-2
 unfolding joined
 returns-2 c = rw (ne-eqb _ _ (c .before .if1 .left), eq-eqb _ _ (c .if2 .taken))
 
--- src/holders.rt:29:1
 returns-3 : tie.Need-returns-3
 unfolding joined
 returns-3 c = rw (ne-eqb _ _ (c .before .if1 .left), ne-eqb _ _ (c .if2 .left))

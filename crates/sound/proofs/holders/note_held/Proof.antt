@@ -1,58 +1,42 @@
-use Rattle.sound.specs.Holders.{holders-more}
-use Rattle.laws.specs.SlotPlaces.{place-owner}
-use Rattle.session.specs.Table.{read}
+use Prim.Native.Nat.{_/_, _<_}
 use native.Mathlib.Omega.{arith}
-use mathlib.Core.Path.{_≡_, refl, sym, _∙_, ap}
-use Prim.Native.Nat.{ℕ, _+_, _-_, _*_, _/_, _≤_, _<_}
 use borrow.Author.Needs.{needs}
+use Rattle.session.specs.Table.{read}
+use Rattle.laws.specs.SlotPlaces.{place-owner}
+use Rattle.sound.specs.Holders.{holders-more}
 use Rattle.sound.proofs.holders.note_held.Statement.{statement}
 use Rattle.sound.proofs.holders.note_held.Tie as tie
-use Rattle.sound.proofs.holders.note_held.Reads as reads
-use Rattle.sound.proofs.holders.note_held.Lts as lts
-use Rattle.sound.proofs.holders.join.Reads as join-reads
-use Rattle.sound.proofs.places.of_slot.Reads as of-slot-reads
 
--- src/holders.rt:80:9
 of-slot-requires : tie.Need-of-slot-requires
 of-slot-requires c κs = search needs
 
--- src/holders.rt:81:9
 of-slot-requires-2 : tie.Need-of-slot-requires-2
 of-slot-requires-2 c κs = search needs
 
--- src/holders.rt:82:15
 mul-at : tie.Need-mul-at
 mul-at c = search needs
 
--- src/holders.rt:82:24
 sub-at : tie.Need-sub-at
 sub-at c = search needs
 
--- src/holders.rt:82:15
 add-at : tie.Need-add-at
 add-at c = search needs
 
--- src/holders.rt:83:20
 mul-join : tie.Need-mul-join
 mul-join c = search needs
 
--- src/holders.rt:83:20
 element-copy-out-join : tie.Need-element-copy-out-join
 element-copy-out-join c = search needs
 
--- src/holders.rt:83:15
 join-requires : tie.Need-join-requires
 join-requires c κs = search needs
 
--- src/holders.rt:83:5
 mul-row : tie.Need-mul-row
 mul-row c = search needs
 
--- src/holders.rt:83:5
 element-write-row : tie.Need-element-write-row
 element-write-row c = search needs
 
--- src/holders.rt:76:1
 returns : tie.Need-returns
 returns c =
     let x = c .before .before .before .before .before in

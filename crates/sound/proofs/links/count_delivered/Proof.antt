@@ -1,19 +1,16 @@
+use Prim.Native.Nat.{_+_, _-_, _≤_}
+use mathlib.Core.Logic.{⊎-elim}
+use mathlib.Core.Path.{_≡_, sym, _∙_}
+use native.Mathlib.Omega.{arith}
+use borrow.Author.Needs.{needs}
+use Rattle.session.specs.Table.{read}
+use Rattle.rules.specs.FormulaLaws.{passed, failed}
+use Rattle.rules.specs.Formula.{count as countOf}
+use Rattle.laws.specs.Counting.{count-next-yes, count-next-no}
 use Rattle.sound.specs.Bodies.{isDelivered}
 use Rattle.sound.specs.Loops.{count-none}
-use Rattle.laws.specs.Counting.{count-next-yes, count-next-no}
-use Rattle.rules.specs.FormulaLaws.{passed, failed}
-use mathlib.Core.Logic.{⊎-elim}
-use Rattle.rules.specs.Formula.{count as countOf}
-use Rattle.session.specs.Table.{read}
-use borrow.Author.Needs.{needs}
-use native.Mathlib.Omega.{arith}
-use mathlib.Core.Path.{_≡_, sym, _∙_}
-use Prim.Native.Nat.{ℕ, _+_, _-_, _*_, _≤_, _<_}
 use Rattle.sound.proofs.links.count_delivered.Statement.{statement}
 use Rattle.sound.proofs.links.count_delivered.Tie as tie
-use Rattle.sound.proofs.links.count_delivered.Reads as reads
-use Rattle.sound.proofs.links.count_delivered.Lts as lts
-use Rattle.sound.proofs.links.is_delivered.Reads as is-delivered-reads
 
 abbrev Inv-loop : tie.InvT-loop
 Inv-loop s n count₀ l₀ count l = (l ≤ n + 1) × (count ≡ countOf l (isDelivered (read s))) × (count ≤ l)
@@ -21,27 +18,21 @@ Inv-loop s n count₀ l₀ count l = (l ≤ n + 1) × (count ≡ countOf l (isDe
 abbrev μ-loop : tie.MeasureT-loop
 μ-loop s n count₀ l₀ count l = n + 1 - l
 
--- src/links.rt:96:5
 loop-holds : tie.Need-loop-holds Inv-loop μ-loop
 loop-holds c = (omega arith, sym (count-none _), omega arith)
 
--- src/links.rt:97:12
 is-delivered-requires : tie.Need-is-delivered-requires Inv-loop μ-loop
 is-delivered-requires c κs = search needs
 
--- src/links.rt:98:13
 add-count : tie.Need-add-count Inv-loop μ-loop
 add-count c = omega arith
 
--- src/links.rt:100:9
 add-l : tie.Need-add-l Inv-loop μ-loop
 add-l c = omega arith
 
--- src/links.rt:96:5
 loop-less : tie.Need-loop-less Inv-loop μ-loop
 loop-less c = omega arith
 
--- src/links.rt:96:5
 loop-again : tie.Need-loop-again Inv-loop μ-loop
 loop-again c =
     let l = c .before .before .before .loop in
@@ -51,7 +42,6 @@ loop-again c =
     (λ w. let y = count-next-no (l .l) f (failed (f (l .l)) (sym e ∙ w .0 .left)) in (omega arith, omega (arith, w .1, y, l .inv .1), omega (arith, w .1, l .inv .2)))
     (c .if1 .came)
 
--- src/links.rt:90:1
 returns : tie.Need-returns Inv-loop μ-loop
 returns c =
     let l = c .before .loop in

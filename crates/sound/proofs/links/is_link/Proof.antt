@@ -1,57 +1,38 @@
-use Rattle.sound.specs.Bools.{test-both, test-either, test-eq}
 use borrow.Author.Needs.{needs}
+use Rattle.sound.specs.Bools.{test-both, test-either, test-eq}
 use Rattle.sound.proofs.links.is_link.Statement.{statement}
 use Rattle.sound.proofs.links.is_link.Tie as tie
-use Rattle.sound.proofs.links.is_link.Reads as reads
-use Rattle.sound.proofs.links.is_link.Lts as lts
-use Rattle.sound.proofs.links.does_link_agree.Reads as does-link-agree-reads
-use Rattle.sound.proofs.links.has_slot.Reads as has-slot-reads
-use Rattle.sound.proofs.links.is_user_event.Reads as is-user-event-reads
-use Rattle.sound.proofs.places.is_made.Reads as is-made-reads
-use Rattle.sound.proofs.places.of_link.Reads as of-link-reads
-use Rattle.sound.proofs.places.of_object.Reads as of-object-reads
 
--- src/links.rt:54:9
 of-link-requires : tie.Need-of-link-requires
 of-link-requires c κs = search needs
 
--- src/links.rt:55:9
 of-link-requires-2 : tie.Need-of-link-requires-2
 of-link-requires-2 c κs = search needs
 
--- src/links.rt:56:9
 of-link-requires-3 : tie.Need-of-link-requires-3
 of-link-requires-3 c κs = search needs
 
--- src/links.rt:57:15
 of-object-requires : tie.Need-of-object-requires
 of-object-requires c κs = search needs
 
--- src/links.rt:57:67
 is-user-event-requires : tie.Need-is-user-event-requires
 is-user-event-requires c κs = search needs
 
--- src/links.rt:58:17
 is-made-requires : tie.Need-is-made-requires
 is-made-requires c κs = search needs
 
--- src/links.rt:58:45
 has-slot-requires : tie.Need-has-slot-requires
 has-slot-requires c κs = search needs
 
--- src/links.rt:58:73
 does-link-agree-requires : tie.Need-does-link-agree-requires
 does-link-agree-requires c κs = search needs
 
--- src/links.rt:59:5
 is-made-requires-2 : tie.Need-is-made-requires-2
 is-made-requires-2 c κs = search needs
 
--- src/links.rt:59:28
 of-object-requires-2 : tie.Need-of-object-requires-2
 of-object-requires-2 c κs = search needs
 
--- src/links.rt:50:1
 returns : tie.Need-returns
 returns c = rw (c .of-object2 .ensures, c .before .is-made2 .ensures, c .before .before .does-link-agree .ensures, c .before .before .before .has-slot .ensures, c .before .before .before .before .is-made .ensures, c .before .before .before .before .before .is-user-event .ensures, c .before .before .before .before .before .before .of-object .ensures, c .before .before .before .before .before .before .before .of-link3 .ensures, c .before .before .before .before .before .before .before .before .of-link2 .ensures, c .before .before .before .before .before .before .before .before .before .of-link .ensures) (simp (test-both, test-either, test-eq))
 

@@ -1,16 +1,13 @@
+use Prim.Native.Nat.{_+_, _-_, _≤_}
+use mathlib.Core.Path.{_≡_, sym}
+use native.Mathlib.Omega.{arith}
+use borrow.Author.Needs.{needs}
+use Rattle.session.specs.Table.{read}
+use Rattle.rules.specs.Formula.{test, Formula.each}
 use Rattle.sound.specs.Bodies.{latchAt}
 use Rattle.sound.specs.Loops.{each-none, each-more}
-use Rattle.rules.specs.Formula.{test, Formula.each}
-use Rattle.session.specs.Table.{read}
-use borrow.Author.Needs.{needs}
-use native.Mathlib.Omega.{arith}
-use mathlib.Core.Path.{_≡_, sym}
-use Prim.Native.Nat.{ℕ, _+_, _-_, _*_, _≤_, _<_}
 use Rattle.sound.proofs.objects.are_latches.Statement.{statement}
 use Rattle.sound.proofs.objects.are_latches.Tie as tie
-use Rattle.sound.proofs.objects.are_latches.Reads as reads
-use Rattle.sound.proofs.objects.are_latches.Lts as lts
-use Rattle.sound.proofs.objects.is_latch.Reads as is-latch-reads
 
 abbrev Inv-loop : tie.InvT-loop
 Inv-loop s n ok₀ e₀ ok e = (e ≤ n + 1) × (ok ≡ test (each e (latchAt (read s))))
@@ -18,29 +15,23 @@ Inv-loop s n ok₀ e₀ ok e = (e ≤ n + 1) × (ok ≡ test (each e (latchAt (r
 abbrev μ-loop : tie.MeasureT-loop
 μ-loop s n ok₀ e₀ ok e = n + 1 - e
 
--- src/objects.rt:130:5
 loop-holds : tie.Need-loop-holds Inv-loop μ-loop
 loop-holds c = (omega arith, sym (each-none _))
 
--- src/objects.rt:131:14
 is-latch-requires : tie.Need-is-latch-requires Inv-loop μ-loop
 is-latch-requires c κs = search needs
 
--- src/objects.rt:132:9
 add-e : tie.Need-add-e Inv-loop μ-loop
 add-e c = omega arith
 
--- src/objects.rt:130:5
 loop-less : tie.Need-loop-less Inv-loop μ-loop
 loop-less c = omega arith
 
--- src/objects.rt:130:5
 loop-again : tie.Need-loop-again Inv-loop μ-loop
 loop-again c =
     let l = c .before .before .loop in
     (omega arith, rw (c .is-latch .ensures, l .inv .1) (sym (each-more (l .e) _)))
 
--- src/objects.rt:124:1
 returns : tie.Need-returns Inv-loop μ-loop
 returns c =
     let l = c .before .loop in

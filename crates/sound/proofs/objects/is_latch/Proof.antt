@@ -1,30 +1,22 @@
-use Rattle.sound.specs.Bools.{test-not, test-both, test-either, test-implies, test-eq, test-lt, test-le}
 use borrow.Author.Needs.{needs}
+use Rattle.sound.specs.Bools.{test-both, test-either, test-implies, test-eq}
 use Rattle.sound.proofs.objects.is_latch.Statement.{statement}
 use Rattle.sound.proofs.objects.is_latch.Tie as tie
-use Rattle.sound.proofs.objects.is_latch.Reads as reads
-use Rattle.sound.proofs.objects.is_latch.Lts as lts
-use Rattle.sound.proofs.places.of_object.Reads as of-object-reads
 
--- src/objects.rt:116:9
 of-object-requires : tie.Need-of-object-requires
 of-object-requires c κs = search needs
 
--- src/objects.rt:118:18
 of-object-requires-2 : tie.Need-of-object-requires-2
 of-object-requires-2 c κs = search needs
 
--- src/objects.rt:119:13
 of-object-requires-3 : tie.Need-of-object-requires-3
 of-object-requires-3 c κs = search needs
 
--- src/objects.rt:120:15
 of-object-requires-4 : tie.Need-of-object-requires-4
 of-object-requires-4 c κs = search needs
 
--- src/objects.rt:112:1
 returns : tie.Need-returns
-returns c = rw (c .of-object4 .ensures, c .before .of-object3 .ensures, c .before .before .of-object2 .ensures, c .before .before .before .of-object .ensures) (simp (test-not, test-both, test-either, test-implies, test-eq, test-lt, test-le))
+returns c = rw (c .of-object4 .ensures, c .before .of-object3 .ensures, c .before .before .of-object2 .ensures, c .before .before .before .of-object .ensures) (simp (test-both, test-either, test-implies, test-eq))
 
 pub is-latch-spec : {M : Type 1} → statement M
 is-latch-spec =

@@ -1,22 +1,16 @@
-use Rattle.session.specs.Table.{read}
 use borrow.Author.Tests.{le-ltb}
 use borrow.Author.Needs.{needs}
+use Rattle.session.specs.Table.{read}
 use Rattle.sound.proofs.places.of_slot.Statement.{statement}
 use Rattle.sound.proofs.places.of_slot.Tie as tie
-use Rattle.sound.proofs.places.of_slot.Reads as reads
-use Rattle.sound.proofs.places.of_slot.Lts as lts
-use Rattle.session.proofs.get.Reads as get-reads
 
--- src/places.rt:30:9
 returns : tie.Need-returns
 unfolding read
 returns c = rw (c .before .before .pre .1, le-ltb _ _ (c .if1 .taken))
 
--- src/places.rt:32:5
 get-requires : tie.Need-get-requires
 get-requires c κs = search needs
 
--- src/places.rt:25:1
 returns-2 : tie.Need-returns-2
 returns-2 c = search needs
 

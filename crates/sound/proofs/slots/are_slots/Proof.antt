@@ -1,16 +1,12 @@
+use Prim.Native.Nat.{_+_, _-_, _≤_}
+use mathlib.Core.Path.{_≡_, sym}
+use native.Mathlib.Omega.{arith}
+use Rattle.session.specs.Table.{read}
+use Rattle.rules.specs.Formula.{test, Formula.each}
 use Rattle.sound.specs.LinkOf.{slotsAt}
 use Rattle.sound.specs.Loops.{each-none, each-more}
-use Rattle.rules.specs.Formula.{test, Formula.each}
-use Rattle.session.specs.Table.{read}
-use borrow.Author.Needs.{needs}
-use native.Mathlib.Omega.{arith}
-use mathlib.Core.Path.{_≡_, sym}
-use Prim.Native.Nat.{ℕ, _+_, _-_, _*_, _≤_, _<_}
 use Rattle.sound.proofs.slots.are_slots.Statement.{statement}
 use Rattle.sound.proofs.slots.are_slots.Tie as tie
-use Rattle.sound.proofs.slots.are_slots.Reads as reads
-use Rattle.sound.proofs.slots.are_slots.Lts as lts
-use Rattle.sound.proofs.slots.are_slots_of.Reads as are-slots-of-reads
 
 abbrev Inv-loop : tie.InvT-loop
 Inv-loop s row n ok₀ h₀ ok h = (h ≤ n + 1) × (ok ≡ test (each h (slotsAt (read s))))
@@ -18,29 +14,23 @@ Inv-loop s row n ok₀ h₀ ok h = (h ≤ n + 1) × (ok ≡ test (each h (slotsA
 abbrev μ-loop : tie.MeasureT-loop
 μ-loop s row n ok₀ h₀ ok h = n + 1 - h
 
--- src/slots.rt:164:5
 loop-holds : tie.Need-loop-holds Inv-loop μ-loop
 loop-holds c = (omega arith, sym (each-none _))
 
--- src/slots.rt:165:14
 are-slots-of-requires : tie.Need-are-slots-of-requires Inv-loop μ-loop
 are-slots-of-requires c κs = let p = c .before .before .before .pre in (p .0, omega arith, p .2)
 
--- src/slots.rt:166:9
 add-h : tie.Need-add-h Inv-loop μ-loop
 add-h c = omega arith
 
--- src/slots.rt:164:5
 loop-less : tie.Need-loop-less Inv-loop μ-loop
 loop-less c = omega arith
 
--- src/slots.rt:164:5
 loop-again : tie.Need-loop-again Inv-loop μ-loop
 loop-again c =
     let l = c .before .before .loop in
     (omega arith, rw (c .are-slots-of .ensures, l .inv .1) (sym (each-more (l .h) _)))
 
--- src/slots.rt:158:1
 returns : tie.Need-returns Inv-loop μ-loop
 returns c =
     let l = c .before .loop in

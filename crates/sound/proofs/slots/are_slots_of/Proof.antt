@@ -1,16 +1,13 @@
+use Prim.Native.Nat.{_-_, _≤_}
+use mathlib.Core.Path.{_≡_, sym}
+use native.Mathlib.Omega.{arith}
+use borrow.Author.Needs.{needs}
+use Rattle.session.specs.Table.{read}
+use Rattle.rules.specs.Formula.{test, Formula.each}
 use Rattle.sound.specs.LinkOf.{slotAt}
 use Rattle.sound.specs.Loops.{each-none, each-more}
-use Rattle.rules.specs.Formula.{test, Formula.each}
-use Rattle.session.specs.Table.{read}
-use borrow.Author.Needs.{needs}
-use native.Mathlib.Omega.{arith}
-use mathlib.Core.Path.{_≡_, sym}
-use Prim.Native.Nat.{ℕ, _+_, _-_, _*_, _≤_, _<_}
 use Rattle.sound.proofs.slots.are_slots_of.Statement.{statement}
 use Rattle.sound.proofs.slots.are_slots_of.Tie as tie
-use Rattle.sound.proofs.slots.are_slots_of.Reads as reads
-use Rattle.sound.proofs.slots.are_slots_of.Lts as lts
-use Rattle.sound.proofs.slots.is_slot.Reads as is-slot-reads
 
 abbrev Inv-loop : tie.InvT-loop
 Inv-loop s row h ok₀ j₀ ok j = (j ≤ 16) × (ok ≡ test (each j (slotAt (read s) h)))
@@ -18,29 +15,23 @@ Inv-loop s row h ok₀ j₀ ok j = (j ≤ 16) × (ok ≡ test (each j (slotAt (r
 abbrev μ-loop : tie.MeasureT-loop
 μ-loop s row h ok₀ j₀ ok j = 16 - j
 
--- src/slots.rt:153:5
 loop-holds : tie.Need-loop-holds Inv-loop μ-loop
 loop-holds c = (omega arith, sym (each-none _))
 
--- src/slots.rt:154:14
 is-slot-requires : tie.Need-is-slot-requires Inv-loop μ-loop
 is-slot-requires c κs = search needs
 
--- src/slots.rt:155:9
 add-j : tie.Need-add-j Inv-loop μ-loop
 add-j c = omega arith
 
--- src/slots.rt:153:5
 loop-less : tie.Need-loop-less Inv-loop μ-loop
 loop-less c = omega arith
 
--- src/slots.rt:153:5
 loop-again : tie.Need-loop-again Inv-loop μ-loop
 loop-again c =
     let l = c .before .before .loop in
     (omega arith, rw (c .is-slot .ensures, l .inv .1) (sym (each-more (l .j) _)))
 
--- src/slots.rt:147:1
 returns : tie.Need-returns Inv-loop μ-loop
 returns c =
     let l = c .before .loop in

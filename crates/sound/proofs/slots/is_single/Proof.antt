@@ -1,58 +1,45 @@
-use Rattle.sound.specs.LinkOf.{lastLink}
-use Rattle.sound.specs.Bools.{test-eq}
+use Prim.Native.Nat.{_+_}
+use mathlib.Core.Path.{_≡_, sym, _∙_}
+use native.Mathlib.Omega.{arith}
+use lib.ListN.{getD}
+use borrow.Author.Needs.{needs}
+use Rattle.session.specs.Names.{task}
+use Rattle.session.specs.declared.Field.the-variants.{Kind, Links, LinkTarget, LinkSlot}
+use Rattle.session.specs.Table.{read}
 use Rattle.rules.specs.Reading.{at, isKind}
 use Rattle.rules.specs.FormulaLaws.{passes, test-then}
 use Rattle.rules.specs.Formula.{Formula._≐_, Formula._≼_, Formula._and_}
-use Rattle.session.specs.Names.{task}
-use Rattle.session.specs.declared.Field.the-variants.{Kind, Links, LinkTarget, LinkSlot}
-use lib.ListN.{getD}
-use Rattle.session.specs.Table.{read}
-use native.Mathlib.Omega.{arith}
-use mathlib.Core.Path.{_≡_, refl, sym, _∙_, ap}
-use Prim.Native.Nat.{ℕ, _+_, _-_, _*_, _≤_, _<_}
-use borrow.Author.Needs.{needs}
+use Rattle.sound.specs.LinkOf.{lastLink}
+use Rattle.sound.specs.Bools.{test-eq}
 use Rattle.sound.proofs.slots.is_single.Statement.{statement}
 use Rattle.sound.proofs.slots.is_single.Tie as tie
-use Rattle.sound.proofs.slots.is_single.Reads as reads
-use Rattle.sound.proofs.slots.is_single.Lts as lts
-use Rattle.sound.proofs.places.of_link.Reads as of-link-reads
-use Rattle.sound.proofs.places.of_object.Reads as of-object-reads
 
--- src/slots.rt:57:9
 of-link-requires : tie.Need-of-link-requires
 of-link-requires c κs = search needs
 
--- src/slots.rt:58:9
 of-link-requires-2 : tie.Need-of-link-requires-2
 of-link-requires-2 c κs = search needs
 
--- src/slots.rt:59:8
 of-object-requires : tie.Need-of-object-requires
 of-object-requires c κs = search needs
 
--- src/slots.rt:60:9
 returns : tie.Need-returns
 returns c =
     let e = c .before .before .before .of-link .ensures in
     sym (passes _ (λ x. absurd (c .if1 .taken (c .before .of-object .ensures ∙ rw e (x .1)))))
 
--- src/slots.rt:62:14
 mul-i : tie.Need-mul-i
 mul-i c = search needs
 
--- src/slots.rt:62:14
 add-i : tie.Need-add-i
 add-i c = search needs
 
--- src/slots.rt:63:5
 mul-result : tie.Need-mul-result
 mul-result c = search needs
 
--- src/slots.rt:63:5
 element-copy-out-result : tie.Need-element-copy-out-result
 element-copy-out-result c = search needs
 
--- src/slots.rt:52:1
 returns-2 : tie.Need-returns-2
 returns-2 c =
     let x = c .before .before .before .before .before .before in

@@ -1,38 +1,29 @@
-use Rattle.sound.specs.LinkOf.{slotBy}
+use Prim.Native.Nat.{ℕ}
+use mathlib.Core.Path.{_∙_, ap}
+use native.Mathlib.Omega.{arith}
+use borrow.Author.Needs.{needs}
+use Rattle.session.specs.Table.{read}
 use Rattle.rules.specs.Reading.{at}
 use Rattle.rules.specs.Formula.{test}
-use Rattle.session.specs.Table.{read}
-use native.Mathlib.Omega.{arith}
-use mathlib.Core.Path.{_≡_, refl, sym, _∙_, ap}
-use Prim.Native.Nat.{ℕ, _+_, _-_, _*_, _≤_, _<_}
-use borrow.Author.Needs.{needs}
+use Rattle.sound.specs.LinkOf.{slotBy}
 use Rattle.sound.proofs.slots.is_slot.Statement.{statement}
 use Rattle.sound.proofs.slots.is_slot.Tie as tie
-use Rattle.sound.proofs.slots.is_slot.Reads as reads
-use Rattle.sound.proofs.slots.is_slot.Lts as lts
-use Rattle.sound.proofs.slots.is_slot_by.Reads as is-slot-by-reads
 
--- src/slots.rt:143:14
 mul-i : tie.Need-mul-i
 mul-i c = search needs
 
--- src/slots.rt:143:14
 add-i : tie.Need-add-i
 add-i c = search needs
 
--- src/slots.rt:144:19
 mul-is-slot-by : tie.Need-mul-is-slot-by
 mul-is-slot-by c = search needs
 
--- src/slots.rt:144:19
 element-copy-out-is-slot-by : tie.Need-element-copy-out-is-slot-by
 element-copy-out-is-slot-by c = search needs
 
--- src/slots.rt:144:5
 is-slot-by-requires : tie.Need-is-slot-by-requires
 is-slot-by-requires c κs = search needs
 
--- src/slots.rt:139:1
 returns : tie.Need-returns
 returns c =
     let x = c .before .before .before in

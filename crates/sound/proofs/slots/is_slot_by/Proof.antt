@@ -1,43 +1,29 @@
-use Rattle.sound.specs.Bools.{test-implies, test-both, test-either, test-eq, test-lt, test-le}
 use borrow.Author.Needs.{needs}
+use Rattle.sound.specs.Bools.{test-implies, test-both, test-either, test-eq, test-lt, test-le}
 use Rattle.sound.proofs.slots.is_slot_by.Statement.{statement}
 use Rattle.sound.proofs.slots.is_slot_by.Tie as tie
-use Rattle.sound.proofs.slots.is_slot_by.Reads as reads
-use Rattle.sound.proofs.slots.is_slot_by.Lts as lts
-use Rattle.sound.proofs.places.of_object.Reads as of-object-reads
-use Rattle.sound.proofs.slots.is_claimed_by.Reads as is-claimed-by-reads
-use Rattle.sound.proofs.slots.is_unclaimed_by.Reads as is-unclaimed-by-reads
-use Rattle.sound.proofs.unused.is_no_slot.Reads as is-no-slot-reads
 
--- src/slots.rt:133:19
 of-object-requires : tie.Need-of-object-requires
 of-object-requires c κs = search needs
 
--- src/slots.rt:134:9
 of-object-requires-2 : tie.Need-of-object-requires-2
 of-object-requires-2 c κs = search needs
 
--- src/slots.rt:135:17
 is-unclaimed-by-requires : tie.Need-is-unclaimed-by-requires
 is-unclaimed-by-requires c κs = search needs
 
--- src/slots.rt:135:47
 is-claimed-by-requires : tie.Need-is-claimed-by-requires
 is-claimed-by-requires c κs = search needs
 
--- src/slots.rt:136:73
 mul-is-no-slot : tie.Need-mul-is-no-slot
 mul-is-no-slot c = search needs
 
--- src/slots.rt:136:73
 add-is-no-slot : tie.Need-add-is-no-slot
 add-is-no-slot c = search needs
 
--- src/slots.rt:136:59
 is-no-slot-requires : tie.Need-is-no-slot-requires
 is-no-slot-requires c κs = search needs
 
--- src/slots.rt:129:1
 returns : tie.Need-returns
 returns c = rw (c .is-no-slot .ensures, c .before .is-claimed-by .ensures, c .before .before .is-unclaimed-by .ensures, c .before .before .before .of-object2 .ensures, c .before .before .before .before .of-object .ensures) (simp (test-implies, test-both, test-either, test-eq, test-lt, test-le))
 

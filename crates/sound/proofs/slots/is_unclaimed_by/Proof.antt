@@ -1,50 +1,37 @@
-use Rattle.sound.specs.Bools.{test-not, test-both, test-either, test-implies, test-eq, test-lt, test-le}
 use borrow.Author.Needs.{needs}
+use Rattle.sound.specs.Bools.{test-both, test-eq}
 use Rattle.sound.proofs.slots.is_unclaimed_by.Statement.{statement}
 use Rattle.sound.proofs.slots.is_unclaimed_by.Tie as tie
-use Rattle.sound.proofs.slots.is_unclaimed_by.Reads as reads
-use Rattle.sound.proofs.slots.is_unclaimed_by.Lts as lts
-use Rattle.sound.proofs.places.of_slot.Reads as of-slot-reads
 
--- src/slots.rt:122:44
 mul-of-slot : tie.Need-mul-of-slot
 mul-of-slot c = search needs
 
--- src/slots.rt:122:44
 add-of-slot : tie.Need-add-of-slot
 add-of-slot c = search needs
 
--- src/slots.rt:122:9
 of-slot-requires : tie.Need-of-slot-requires
 of-slot-requires c κs = search needs
 
--- src/slots.rt:123:44
 mul-of-slot-2 : tie.Need-mul-of-slot-2
 mul-of-slot-2 c = search needs
 
--- src/slots.rt:123:44
 add-of-slot-2 : tie.Need-add-of-slot-2
 add-of-slot-2 c = search needs
 
--- src/slots.rt:123:9
 of-slot-requires-2 : tie.Need-of-slot-requires-2
 of-slot-requires-2 c κs = search needs
 
--- src/slots.rt:124:50
 mul-of-slot-3 : tie.Need-mul-of-slot-3
 mul-of-slot-3 c = search needs
 
--- src/slots.rt:124:50
 add-of-slot-3 : tie.Need-add-of-slot-3
 add-of-slot-3 c = search needs
 
--- src/slots.rt:124:9
 of-slot-requires-3 : tie.Need-of-slot-requires-3
 of-slot-requires-3 c κs = search needs
 
--- src/slots.rt:118:1
 returns : tie.Need-returns
-returns c = rw (c .of-slot3 .ensures, c .before .of-slot2 .ensures, c .before .before .of-slot .ensures) (simp (test-not, test-both, test-either, test-implies, test-eq, test-lt, test-le))
+returns c = rw (c .of-slot3 .ensures, c .before .of-slot2 .ensures, c .before .before .of-slot .ensures) (simp (test-both, test-eq))
 
 pub is-unclaimed-by-spec : {M : Type 1} → statement M
 is-unclaimed-by-spec =

@@ -1,46 +1,33 @@
-use Rattle.sound.specs.LinkOf.{row-link, row-skip}
+use mathlib.Core.Path.{_≡_, sym, _∙_}
+use native.Mathlib.Omega.{arith}
+use borrow.Author.Needs.{needs}
 use Rattle.session.specs.declared.Field.the-variants.{Kind, LinkTarget}
 use Rattle.session.specs.Table.{read}
-use native.Mathlib.Omega.{arith}
-use mathlib.Core.Path.{_≡_, refl, sym, _∙_, ap}
-use Prim.Native.Nat.{ℕ, _+_, _-_, _*_, _≤_, _<_}
-use borrow.Author.Needs.{needs}
+use Rattle.sound.specs.LinkOf.{row-link, row-skip}
 use Rattle.sound.proofs.slots.note_link.Statement.{statement}
 use Rattle.sound.proofs.slots.note_link.Tie as tie
-use Rattle.sound.proofs.slots.note_link.Reads as reads
-use Rattle.sound.proofs.slots.note_link.Lts as lts
-use Rattle.sound.proofs.places.of_link.Reads as of-link-reads
-use Rattle.sound.proofs.places.of_object.Reads as of-object-reads
 
--- src/slots.rt:21:9
 of-link-requires : tie.Need-of-link-requires
 of-link-requires c κs = search needs
 
--- src/slots.rt:22:9
 of-link-requires-2 : tie.Need-of-link-requires-2
 of-link-requires-2 c κs = search needs
 
--- src/slots.rt:23:8
 of-object-requires : tie.Need-of-object-requires
 of-object-requires c κs = search needs
 
--- src/slots.rt:24:18
 mul-i : tie.Need-mul-i
 mul-i c = search needs
 
--- src/slots.rt:24:18
 add-i : tie.Need-add-i
 add-i c = search needs
 
--- src/slots.rt:25:9
 mul-row : tie.Need-mul-row
 mul-row c = search needs
 
--- src/slots.rt:25:9
 element-write-row : tie.Need-element-write-row
 element-write-row c = search needs
 
--- src/slots.rt:16:1
 returns : tie.Need-returns
 returns c =
     let x = c .before .before .before .before .before in
@@ -52,7 +39,6 @@ returns c =
     let t : s Kind (s LinkTarget (a .l)) ≡ 2 = rw e at (sym (c .before .of-object .ensures) ∙ c .if1 .taken) in
     rw (e, d) (row-link s (a .row .now) (a .l) (p .4) (p .1) t (omega (arith, p .2, p .3)))
 
--- src/slots.rt:16:1
 returns-2 : tie.Need-returns-2
 returns-2 c =
     let x = c .before .before .before .before .before in

@@ -1,14 +1,11 @@
+use Prim.Native.Nat.{_+_, _-_, _≤_}
+use mathlib.Core.Path.{_≡_}
+use native.Mathlib.Omega.{arith}
+use Rattle.session.specs.Table.{read}
 use Rattle.sound.specs.LinkOf.{lastLink, row-first}
 use Rattle.sound.specs.Row.{Row}
-use Rattle.session.specs.Table.{read}
-use native.Mathlib.Omega.{arith}
-use mathlib.Core.Path.{_≡_, sym}
-use Prim.Native.Nat.{ℕ, _+_, _-_, _*_, _≤_, _<_}
 use Rattle.sound.proofs.slots.note_links.Statement.{statement}
 use Rattle.sound.proofs.slots.note_links.Tie as tie
-use Rattle.sound.proofs.slots.note_links.Reads as reads
-use Rattle.sound.proofs.slots.note_links.Lts as lts
-use Rattle.sound.proofs.slots.note_link.Reads as note-link-reads
 
 abbrev Inv-loop : tie.InvT-loop
 Inv-loop s row₀ n l₀ row l = (1 ≤ l) × (l ≤ n + 1) × Row row 8208 (lastLink (read s) l)
@@ -16,11 +13,9 @@ Inv-loop s row₀ n l₀ row l = (1 ≤ l) × (l ≤ n + 1) × Row row 8208 (las
 abbrev μ-loop : tie.MeasureT-loop
 μ-loop s row₀ n l₀ row l = n + 1 - l
 
--- src/slots.rt:35:5
 loop-holds : tie.Need-loop-holds Inv-loop μ-loop
 loop-holds c = (omega arith, omega arith, row-first (read (c .before .args .s .now)) _ (c .before .pre .4))
 
--- src/slots.rt:36:9
 note-link-requires : tie.Need-note-link-requires Inv-loop μ-loop
 note-link-requires c κs =
     let p = c .before .before .before .before .pre in
@@ -28,19 +23,15 @@ note-link-requires c κs =
     let x = p .3 (l .l) (omega (arith, p .2)) (l .inv .0) in
     (p .0, l .inv .0, x .0, x .1, l .inv .2)
 
--- src/slots.rt:37:9
 add-l : tie.Need-add-l Inv-loop μ-loop
 add-l c = omega arith
 
--- src/slots.rt:35:5
 loop-less : tie.Need-loop-less Inv-loop μ-loop
 loop-less c = omega arith
 
--- src/slots.rt:35:5
 loop-again : tie.Need-loop-again Inv-loop μ-loop
 loop-again c = (omega arith, omega arith, c .note-link .ensures)
 
--- src/slots.rt:30:1
 returns : tie.Need-returns Inv-loop μ-loop
 returns c =
     let l = c .before .loop in

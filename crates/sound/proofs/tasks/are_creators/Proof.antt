@@ -1,16 +1,13 @@
+use Prim.Native.Nat.{_+_, _-_, _≤_}
+use mathlib.Core.Path.{_≡_, sym}
+use native.Mathlib.Omega.{arith}
+use borrow.Author.Needs.{needs}
+use Rattle.session.specs.Table.{read}
+use Rattle.rules.specs.Formula.{test, Formula.each}
 use Rattle.sound.specs.Bodies.{creatorAt}
 use Rattle.sound.specs.Loops.{each-none, each-more}
-use Rattle.rules.specs.Formula.{test, Formula.each}
-use Rattle.session.specs.Table.{read}
-use borrow.Author.Needs.{needs}
-use native.Mathlib.Omega.{arith}
-use mathlib.Core.Path.{_≡_, sym}
-use Prim.Native.Nat.{ℕ, _+_, _-_, _*_, _≤_, _<_}
 use Rattle.sound.proofs.tasks.are_creators.Statement.{statement}
 use Rattle.sound.proofs.tasks.are_creators.Tie as tie
-use Rattle.sound.proofs.tasks.are_creators.Reads as reads
-use Rattle.sound.proofs.tasks.are_creators.Lts as lts
-use Rattle.sound.proofs.tasks.has_creator.Reads as has-creator-reads
 
 abbrev Inv-loop : tie.InvT-loop
 Inv-loop s n ok₀ h₀ ok h = (h ≤ n + 1) × (ok ≡ test (each h (creatorAt (read s))))
@@ -18,29 +15,23 @@ Inv-loop s n ok₀ h₀ ok h = (h ≤ n + 1) × (ok ≡ test (each h (creatorAt 
 abbrev μ-loop : tie.MeasureT-loop
 μ-loop s n ok₀ h₀ ok h = n + 1 - h
 
--- src/tasks.rt:39:5
 loop-holds : tie.Need-loop-holds Inv-loop μ-loop
 loop-holds c = (omega arith, sym (each-none _))
 
--- src/tasks.rt:40:14
 has-creator-requires : tie.Need-has-creator-requires Inv-loop μ-loop
 has-creator-requires c κs = search needs
 
--- src/tasks.rt:41:9
 add-h : tie.Need-add-h Inv-loop μ-loop
 add-h c = omega arith
 
--- src/tasks.rt:39:5
 loop-less : tie.Need-loop-less Inv-loop μ-loop
 loop-less c = omega arith
 
--- src/tasks.rt:39:5
 loop-again : tie.Need-loop-again Inv-loop μ-loop
 loop-again c =
     let l = c .before .before .loop in
     (omega arith, rw (c .has-creator .ensures, l .inv .1) (sym (each-more (l .h) _)))
 
--- src/tasks.rt:33:1
 returns : tie.Need-returns Inv-loop μ-loop
 returns c =
     let l = c .before .loop in

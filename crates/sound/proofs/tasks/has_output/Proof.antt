@@ -1,42 +1,29 @@
-use Rattle.sound.specs.Bools.{test-implies, test-both, test-eq}
 use borrow.Author.Needs.{needs}
+use Rattle.sound.specs.Bools.{test-implies, test-both, test-eq}
 use Rattle.sound.proofs.tasks.has_output.Statement.{statement}
 use Rattle.sound.proofs.tasks.has_output.Tie as tie
-use Rattle.sound.proofs.tasks.has_output.Reads as reads
-use Rattle.sound.proofs.tasks.has_output.Lts as lts
-use Rattle.sound.proofs.places.previous.Reads as previous-reads
-use Rattle.sound.proofs.places.of_object.Reads as of-object-reads
-use Rattle.sound.proofs.tasks.is_output_of.Reads as is-output-of-reads
 
--- src/tasks.rt:157:9
 of-object-requires : tie.Need-of-object-requires
 of-object-requires c κs = search needs
 
--- src/tasks.rt:158:9
 previous-requires : tie.Need-previous-requires
 previous-requires c κs = search needs
 
--- src/tasks.rt:159:20
 of-object-requires-2 : tie.Need-of-object-requires-2
 of-object-requires-2 c κs = search needs
 
--- src/tasks.rt:159:68
 of-object-requires-3 : tie.Need-of-object-requires-3
 of-object-requires-3 c κs = search needs
 
--- src/tasks.rt:160:42
 of-object-requires-4 : tie.Need-of-object-requires-4
 of-object-requires-4 c κs = search needs
 
--- src/tasks.rt:161:47
 of-object-requires-5 : tie.Need-of-object-requires-5
 of-object-requires-5 c κs = search needs
 
--- src/tasks.rt:162:15
 is-output-of-requires : tie.Need-is-output-of-requires
 is-output-of-requires c κs = search needs
 
--- src/tasks.rt:153:1
 returns : tie.Need-returns
 returns c = rw (c .is-output-of .ensures, c .before .of-object5 .ensures, c .before .before .of-object4 .ensures, c .before .before .before .of-object3 .ensures, c .before .before .before .before .of-object2 .ensures, c .before .before .before .before .before .previous .ensures, c .before .before .before .before .before .before .of-object .ensures) (simp (test-implies, test-both, test-eq))
 

@@ -1,23 +1,18 @@
 use native.Mathlib.Omega.{arith}
+use borrow.Author.Needs.{needs}
 use Rattle.session.specs.Table.{read}
 use Rattle.rules.specs.Reading.{busy}
 use Rattle.ancestors.specs.Above.{Shows}
 use Rattle.sound.specs.Bools.{chosen}
-use borrow.Author.Needs.{needs}
 use Rattle.sound.proofs.tasks.is_busy.Statement.{statement}
 use Rattle.sound.proofs.tasks.is_busy.Tie as tie
-use Rattle.sound.proofs.tasks.is_busy.Reads as reads
-use Rattle.sound.proofs.tasks.is_busy.Lts as lts
 
--- src/tasks.rt:126:5
 mul-result : tie.Need-mul-result
 mul-result c = search needs
 
--- src/tasks.rt:126:5
 element-copy-out-result : tie.Need-element-copy-out-result
 element-copy-out-result c = search needs
 
--- src/tasks.rt:122:1
 returns : tie.Need-returns
 unfolding Shows
 returns c =

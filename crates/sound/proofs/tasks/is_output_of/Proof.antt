@@ -1,42 +1,29 @@
-use Rattle.sound.specs.Bools.{test-both, test-eq}
 use borrow.Author.Needs.{needs}
+use Rattle.sound.specs.Bools.{test-both, test-eq}
 use Rattle.sound.proofs.tasks.is_output_of.Statement.{statement}
 use Rattle.sound.proofs.tasks.is_output_of.Tie as tie
-use Rattle.sound.proofs.tasks.is_output_of.Reads as reads
-use Rattle.sound.proofs.tasks.is_output_of.Lts as lts
-use Rattle.sound.proofs.places.is_made.Reads as is-made-reads
-use Rattle.sound.proofs.places.of_object.Reads as of-object-reads
-use Rattle.sound.proofs.tasks.does_output_agree.Reads as does-output-agree-reads
 
--- src/tasks.rt:148:47
 add-of-object : tie.Need-add-of-object
 add-of-object c = search needs
 
--- src/tasks.rt:148:9
 of-object-requires : tie.Need-of-object-requires
 of-object-requires c κs = search needs
 
--- src/tasks.rt:149:44
 does-output-agree-requires : tie.Need-does-output-agree-requires
 does-output-agree-requires c κs = search needs
 
--- src/tasks.rt:150:16
 add-is-made : tie.Need-add-is-made
 add-is-made c = search needs
 
--- src/tasks.rt:150:5
 is-made-requires : tie.Need-is-made-requires
 is-made-requires c κs = search needs
 
--- src/tasks.rt:150:53
 add-of-object-2 : tie.Need-add-of-object-2
 add-of-object-2 c = search needs
 
--- src/tasks.rt:150:27
 of-object-requires-2 : tie.Need-of-object-requires-2
 of-object-requires-2 c κs = search needs
 
--- src/tasks.rt:144:1
 returns : tie.Need-returns
 returns c = rw (c .of-object2 .ensures, c .before .is-made .ensures, c .before .before .does-output-agree .ensures, c .before .before .before .of-object .ensures) (simp (test-both, test-eq))
 

@@ -1,34 +1,23 @@
-use Rattle.sound.specs.Bools.{test-not, test-implies, test-both, test-eq, test-le}
 use borrow.Author.Needs.{needs}
+use Rattle.sound.specs.Bools.{test-not, test-implies, test-both, test-eq, test-le}
 use Rattle.sound.proofs.tasks.is_state.Statement.{statement}
 use Rattle.sound.proofs.tasks.is_state.Tie as tie
-use Rattle.sound.proofs.tasks.is_state.Reads as reads
-use Rattle.sound.proofs.tasks.is_state.Lts as lts
-use Rattle.sound.proofs.places.of_object.Reads as of-object-reads
-use Rattle.sound.proofs.tasks.are_holding.Reads as are-holding-reads
-use Rattle.sound.proofs.tasks.is_full.Reads as is-full-reads
 
--- src/tasks.rt:91:9
 of-object-requires : tie.Need-of-object-requires
 of-object-requires c κs = search needs
 
--- src/tasks.rt:92:9
 of-object-requires-2 : tie.Need-of-object-requires-2
 of-object-requires-2 c κs = search needs
 
--- src/tasks.rt:93:9
 is-full-requires : tie.Need-is-full-requires
 is-full-requires c κs = search needs
 
--- src/tasks.rt:95:78
 are-holding-requires : tie.Need-are-holding-requires
 are-holding-requires c κs = search needs
 
--- src/tasks.rt:96:7
 of-object-requires-3 : tie.Need-of-object-requires-3
 of-object-requires-3 c κs = search needs
 
--- src/tasks.rt:87:1
 returns : tie.Need-returns
 returns c = rw (c .of-object3 .ensures, c .before .are-holding .ensures, c .before .before .is-full .ensures, c .before .before .before .of-object2 .ensures, c .before .before .before .before .of-object .ensures) (simp (test-not, test-implies, test-both, test-eq, test-le))
 

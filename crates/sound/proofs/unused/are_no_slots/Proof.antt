@@ -1,16 +1,13 @@
+use Prim.Native.Nat.{_-_, _≤_}
+use mathlib.Core.Path.{_≡_, sym}
+use native.Mathlib.Omega.{arith}
+use borrow.Author.Needs.{needs}
+use Rattle.session.specs.Table.{read}
+use Rattle.rules.specs.Formula.{test, Formula.each}
 use Rattle.sound.specs.Bodies.{noSlotOf}
 use Rattle.sound.specs.Loops.{each-none, each-more}
-use Rattle.rules.specs.Formula.{test, Formula.each}
-use Rattle.session.specs.Table.{read}
-use borrow.Author.Needs.{needs}
-use native.Mathlib.Omega.{arith}
-use mathlib.Core.Path.{_≡_, sym}
-use Prim.Native.Nat.{ℕ, _+_, _-_, _*_, _≤_, _<_}
 use Rattle.sound.proofs.unused.are_no_slots.Statement.{statement}
 use Rattle.sound.proofs.unused.are_no_slots.Tie as tie
-use Rattle.sound.proofs.unused.are_no_slots.Reads as reads
-use Rattle.sound.proofs.unused.are_no_slots.Lts as lts
-use Rattle.sound.proofs.unused.is_no_slot.Reads as is-no-slot-reads
 
 abbrev Inv-loop : tie.InvT-loop
 Inv-loop s h ok₀ j₀ ok j = (j ≤ 16) × (ok ≡ test (each j (noSlotOf (read s) h)))
@@ -18,37 +15,29 @@ Inv-loop s h ok₀ j₀ ok j = (j ≤ 16) × (ok ≡ test (each j (noSlotOf (rea
 abbrev μ-loop : tie.MeasureT-loop
 μ-loop s h ok₀ j₀ ok j = 16 - j
 
--- src/unused.rt:28:5
 loop-holds : tie.Need-loop-holds Inv-loop μ-loop
 loop-holds c = (omega arith, sym (each-none _))
 
--- src/unused.rt:29:28
 mul-is-no-slot : tie.Need-mul-is-no-slot Inv-loop μ-loop
 mul-is-no-slot c = omega arith
 
--- src/unused.rt:29:28
 add-is-no-slot : tie.Need-add-is-no-slot Inv-loop μ-loop
 add-is-no-slot c = omega arith
 
--- src/unused.rt:29:14
 is-no-slot-requires : tie.Need-is-no-slot-requires Inv-loop μ-loop
 is-no-slot-requires c κs = search needs
 
--- src/unused.rt:30:9
 add-j : tie.Need-add-j Inv-loop μ-loop
 add-j c = omega arith
 
--- src/unused.rt:28:5
 loop-less : tie.Need-loop-less Inv-loop μ-loop
 loop-less c = omega arith
 
--- src/unused.rt:28:5
 loop-again : tie.Need-loop-again Inv-loop μ-loop
 loop-again c =
     let l = c .before .before .loop in
     (omega arith, rw (c .is-no-slot .ensures, l .inv .1) (sym (each-more (l .j) _)))
 
--- src/unused.rt:22:1
 returns : tie.Need-returns Inv-loop μ-loop
 returns c =
     let l = c .before .loop in

@@ -1,16 +1,13 @@
+use Prim.Native.Nat.{_-_, _≤_}
+use mathlib.Core.Path.{_≡_, sym}
+use native.Mathlib.Omega.{arith}
+use borrow.Author.Needs.{needs}
+use Rattle.session.specs.Table.{read}
+use Rattle.rules.specs.Formula.{test, Formula.each}
 use Rattle.sound.specs.Bodies.{unusedObject}
 use Rattle.sound.specs.Loops.{each-none, each-more}
-use Rattle.rules.specs.Formula.{test, Formula.each}
-use Rattle.session.specs.Table.{read}
-use borrow.Author.Needs.{needs}
-use native.Mathlib.Omega.{arith}
-use mathlib.Core.Path.{_≡_, sym}
-use Prim.Native.Nat.{ℕ, _+_, _-_, _*_, _≤_, _<_}
 use Rattle.sound.proofs.unused.are_unused.Statement.{statement}
 use Rattle.sound.proofs.unused.are_unused.Tie as tie
-use Rattle.sound.proofs.unused.are_unused.Reads as reads
-use Rattle.sound.proofs.unused.are_unused.Lts as lts
-use Rattle.sound.proofs.unused.is_unused.Reads as is-unused-reads
 
 abbrev Inv-loop : tie.InvT-loop
 Inv-loop s ok₀ h₀ ok h = (h ≤ 513) × (ok ≡ test (each h (unusedObject (read s))))
@@ -18,29 +15,23 @@ Inv-loop s ok₀ h₀ ok h = (h ≤ 513) × (ok ≡ test (each h (unusedObject (
 abbrev μ-loop : tie.MeasureT-loop
 μ-loop s ok₀ h₀ ok h = 513 - h
 
--- src/unused.rt:53:5
 loop-holds : tie.Need-loop-holds Inv-loop μ-loop
 loop-holds c = (omega arith, sym (each-none _))
 
--- src/unused.rt:54:14
 is-unused-requires : tie.Need-is-unused-requires Inv-loop μ-loop
 is-unused-requires c κs = search needs
 
--- src/unused.rt:55:9
 add-h : tie.Need-add-h Inv-loop μ-loop
 add-h c = omega arith
 
--- src/unused.rt:53:5
 loop-less : tie.Need-loop-less Inv-loop μ-loop
 loop-less c = omega arith
 
--- src/unused.rt:53:5
 loop-again : tie.Need-loop-again Inv-loop μ-loop
 loop-again c =
     let l = c .before .before .loop in
     (omega arith, rw (c .is-unused .ensures, l .inv .1) (sym (each-more (l .h) _)))
 
--- src/unused.rt:47:1
 returns : tie.Need-returns Inv-loop μ-loop
 returns c =
     let l = c .before .loop in

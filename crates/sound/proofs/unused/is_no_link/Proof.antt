@@ -1,30 +1,22 @@
-use Rattle.sound.specs.Bools.{test-not, test-both, test-either, test-implies, test-eq, test-lt, test-le}
 use borrow.Author.Needs.{needs}
+use Rattle.sound.specs.Bools.{test-both, test-eq}
 use Rattle.sound.proofs.unused.is_no_link.Statement.{statement}
 use Rattle.sound.proofs.unused.is_no_link.Tie as tie
-use Rattle.sound.proofs.unused.is_no_link.Reads as reads
-use Rattle.sound.proofs.unused.is_no_link.Lts as lts
-use Rattle.sound.proofs.places.of_link.Reads as of-link-reads
 
--- src/unused.rt:64:9
 of-link-requires : tie.Need-of-link-requires
 of-link-requires c κs = search needs
 
--- src/unused.rt:65:17
 of-link-requires-2 : tie.Need-of-link-requires-2
 of-link-requires-2 c κs = search needs
 
--- src/unused.rt:65:57
 of-link-requires-3 : tie.Need-of-link-requires-3
 of-link-requires-3 c κs = search needs
 
--- src/unused.rt:66:6
 of-link-requires-4 : tie.Need-of-link-requires-4
 of-link-requires-4 c κs = search needs
 
--- src/unused.rt:60:1
 returns : tie.Need-returns
-returns c = rw (c .of-link4 .ensures, c .before .of-link3 .ensures, c .before .before .of-link2 .ensures, c .before .before .before .of-link .ensures) (simp (test-not, test-both, test-either, test-implies, test-eq, test-lt, test-le))
+returns c = rw (c .of-link4 .ensures, c .before .of-link3 .ensures, c .before .before .of-link2 .ensures, c .before .before .before .of-link .ensures) (simp (test-both, test-eq))
 
 pub is-no-link-spec : {M : Type 1} → statement M
 is-no-link-spec =

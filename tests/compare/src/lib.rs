@@ -1,0 +1,15 @@
+//! The proved engine beside the second one.
+//!
+//! `library` calls the proved engine through its C functions, `layout` reads where things stand in a session's memory,
+//! `words` turns a session of the second engine into such memory and back, `pair` carries out calls on both, and
+//! `judge` has both look whether words are sound. `stages` makes sessions of a wanted size.
+
+pub mod judge;
+pub mod layout;
+pub mod library;
+pub mod pair;
+pub mod stages;
+pub mod words;
+
+pub use library::Memory;
+pub use pair::Pair;

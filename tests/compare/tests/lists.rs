@@ -1,0 +1,86 @@
+//! Random lists of single operations from a fresh session: every answer, and the whole memory after every call.
+
+use compare::pair::{Pair, Through};
+use compare::words::from_words;
+use second::steer::{random_list, LATCH_CALLS};
+use second::{Answer, Operation, Session};
+
+/// The calls that the gate asks for.
+const CALLS: u64 = 200_000;
+
+/// What the lists bring up.
+#[derive(Default)]
+struct Census {
+    calls: u64,
+    checked: u64,
+    accepted: [u64; 13],
+    refused: [u64; 22],
+    most: (u64, u64),
+}
+
+impl Census {
+    fn count(&mut self, operation: &Operation, answer: Answer) {
+        self.calls += 1;
+        match answer.refused {
+            0 => self.accepted[operation.code as usize] += 1,
+            number => self.refused[number as usize] += 1,
+        }
+    }
+
+    /// Play the list of a seed; every so many calls one goes through `apply`, the others through `apply_sound`.
+    fn play(&mut self, seed: u64, calls: u64, every: u64) {
+        let mut list = random_list(seed, calls);
+        let mut pair = Pair::fresh();
+        for number in 1..=calls {
+            let (operation, answer) = list.next_call();
+            let through = if number % every == 0 { Through::Apply } else { Through::ApplySound };
+            self.checked += u64::from(through == Through::Apply);
+            let got = pair.call(&operation, through);
+            assert_eq!(got, answer, "seed {seed}, call {number}: the second engine does not do the same again");
+            self.count(&operation, got);
+        }
+        assert!(pair.memory.sound() && list.session.is_sound(), "seed {seed}");
+        let read = from_words(pair.memory.words()).expect("the words of a session");
+        assert!(same(&read, &list.session), "seed {seed}: words read back as another session");
+        self.most.0 = self.most.0.max(pair.second.object_count());
+        self.most.1 = self.most.1.max(pair.second.link_count());
+    }
+
+    fn check(&self) {
+        println!("calls {} ({} of them through apply)", self.calls, self.checked);
+        println!("accepted {:?} refused {:?} most objects and links {:?}", self.accepted, self.refused, self.most);
+        assert!(self.calls >= CALLS);
+        assert_eq!(self.most, (512, 2_048));
+        for code in 1..=12 {
+            assert!(self.accepted[code] > 0, "operation {code} was never accepted");
+        }
+        for number in 6..=21 {
+            assert!(self.refused[number] > 0, "refusal {number} never came up");
+        }
+    }
+}
+
+/// The same session; holds have no order.
+fn same(one: &Session, other: &Session) -> bool {
+    let parts = |session: &Session| (session.objects.clone(), session.links.clone(), session.dropped);
+    let holds = one.holds.iter().all(|hold| other.holds.contains(hold));
+    parts(one) == parts(other) && holds && one.holds.len() == other.holds.len()
+}
+
+#[test]
+fn two_hundred_thousand_calls() {
+    let mut census = Census::default();
+    // A latch driven to either end of its range; 512 objects; 2,048 links.
+    census.play(0, LATCH_CALLS + 2_000, 997);
+    census.play(4, LATCH_CALLS + 2_000, 997);
+    census.play(5, 4_000, 101);
+    census.play(7, 6_000, 211);
+    // Short lists are mostly checked, longer ones less, as a check of a large session costs more.
+    for seed in 1_000..1_400 {
+        census.play(seed, 60, 3);
+    }
+    for seed in 2_000..2_070 {
+        census.play(seed, 1_500, 61);
+    }
+    census.check();
+}
