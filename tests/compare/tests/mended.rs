@@ -77,14 +77,26 @@ fn change_task(random: &mut Random, task: &mut Task, handle: u64, payload: u64) 
     }
 }
 
-/// Make what depends on other things agree with them again.
+/// Make what depends on other things agree with them again; now and then one of it is forgotten.
 fn mend(random: &mut Random, session: &mut Session) {
+    let forgotten = random.below(30);
     mend_outputs(session);
     mend_links(session);
-    mend_slots(session);
-    mend_outputs(session);
-    mend_links(session);
-    mend_holds(random, session);
+    if forgotten != 0 {
+        mend_slots(session);
+    }
+    if forgotten != 1 {
+        mend_outputs(session);
+    }
+    if forgotten != 2 {
+        mend_links(session);
+    }
+    if forgotten != 3 {
+        mend_holds(random, session);
+    }
+    if forgotten > 5 {
+        mend_blocks(session);
+    }
     let delivered = session.links.iter().filter(|link| link.state == LinkState::Delivered).count() as u64;
     session.dropped = session.dropped.min(delivered);
 }
@@ -154,7 +166,7 @@ fn mend_slots(session: &mut Session) {
     }
 }
 
-/// A granted task holds all, a running one some, others none; doomed blocks are held and destroyed ones not.
+/// A granted task holds all, a running one some, others none.
 fn mend_holds(random: &mut Random, session: &mut Session) {
     let mut holds = vec![];
     for (handle, task) in session.tasks() {
@@ -172,6 +184,10 @@ fn mend_holds(random: &mut Random, session: &mut Session) {
         }
     }
     session.holds = holds;
+}
+
+/// Doomed blocks are held and destroyed ones not.
+fn mend_blocks(session: &mut Session) {
     for handle in 1..=session.object_count() {
         let held = session.is_held(handle);
         if let Some(Object::Block(block)) = session.object_mut(handle) {
@@ -184,9 +200,18 @@ fn mend_holds(random: &mut Random, session: &mut Session) {
     }
 }
 
-/// Whether the layout can hold it: an output event is the next one after its task.
+/// Whether the layout can hold it: an output event is the next one after its task, and a hold is its slot's or its
+/// block's.
 fn fits(session: &Session) -> bool {
+    let made = |hold: &Hold| session.block(hold.block).is_some_and(|block| block.creator == hold.task);
     session.tasks().all(|(handle, task)| task.output == 0 || task.output == handle + 1)
+        && session.holds.iter().all(|hold| match hold.place {
+            Place::Slot(place) => {
+                let slot = session.task(hold.task).and_then(|task| task.slots.get(place as usize));
+                slot.is_some_and(|slot| slot.satisfied) && session.wanted_holds(hold.task).contains(hold)
+            }
+            Place::Made => made(hold),
+        })
 }
 
 #[test]
