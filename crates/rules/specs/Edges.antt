@@ -1,9 +1,11 @@
 -- "Edges, marked P" (document 01), and its false roads: a table of cases and one theorem that all of them hold of the rules.
--- P6 and P7 are about numbers and sheets: P6 is a theorem of the crate `number`.
 use Prim.Native.Nat.{ℕ, _+_}
 use mathlib.Core.Path.{_≡_, refl, subst}
 use mathlib.Core.Bool.{Bool, true, false}
 use mathlib.Core.List.{List, [], _∷_, _++_}
+use Rattle.number.specs.Number.{limit32, more, value, lastByte, shortest, judged, readFirst, readAt}
+use Rattle.number.specs.declared.Reading.{Reading}
+use Rattle.number.specs.declared.Reading.the-variants.{Value, Bad, CutShort}
 use Rattle.session.specs.Table.{Session, put, change, at}
 use Rattle.session.specs.Fresh.{freshSession}
 use Rattle.session.specs.declared.Field.the-variants.{Objects, Kind, EventState, EventType, SlotMode, SlotMark, LinkState}
@@ -11,7 +13,7 @@ use Rattle.session.specs.Names.{event, once, eventOpen, fired, ready, held, sat
 use Rattle.rules.specs.declared.Operation.{Operation}
 use Rattle.rules.specs.Formula.{Formula, holds, test, choose, count, Formula._≐_, Formula._≼_, Formula._and_, Formula.each, Formula.never}
 use Rattle.rules.specs.FormulaLaws.{passed}
-use Rattle.rules.specs.Reading.{under, liveTasks, undeliveredLinks}
+use Rattle.rules.specs.Reading.{under, liveTasks, undeliveredLinks, droppedCount}
 use Rattle.rules.specs.Checks.{refusal}
 use Rattle.rules.specs.Effects.{new, newTemplate, newEvent, newTask, makeTask, newBlock, fire, fireOne, satisfySlot, tally, satisfyEvent, satisfy, claim, newLink, depend, buryDoomed, letGo, release, destroyEvent, fireFinished, destroyTask, destroyBlock, destroy, drops, deliver, grant, start, end}
 use Rattle.rules.specs.Step.{rules, answer, after, outcome}
@@ -92,6 +94,30 @@ crowded =
 p5 : Edge
 p5 = record { from = crowded; calls = done 3 (2 ∷ 1 ∷ []) 512 ∷ refused 3 (2 ∷ 1 ∷ []) 20 ∷ []; shows = λ s. s Objects 0 ≐ 512 }
 
+-- the refusal that a number meets, and its value
+refusalOf : Reading → ℕ
+refusalOf (Value v next) = 0
+refusalOf (Bad next) = 4
+refusalOf CutShort = 3
+
+valueOf : Reading → ℕ
+valueOf (Value v next) = v
+valueOf (Bad next) = 0
+valueOf CutShort = 0
+
+-- P6 bytes 128 0: refusal 4; 128 1 is 128.
+p6 : Formula
+p6 =
+    let long = readAt limit32 (128 ∷ 0 ∷ []) 0 in
+    let right = readAt limit32 (128 ∷ 1 ∷ []) 0 in
+    refusalOf long ≐ 4 and refusalOf right ≐ 0 and valueOf right ≐ 128
+
+-- P7 empty sheet: `0 3 0`, then `1 0 0`: its first number is cut short, and a fresh session has one live task and nothing else.
+p7 : Formula
+p7 =
+    refusalOf (readAt limit32 [] 0) ≐ 3
+    and liveTasks freshSession ≐ 1 and undeliveredLinks freshSession ≐ 0 and droppedCount freshSession ≐ 0
+
 -- P8 finish task ends with a live grandchild: not fired. Task 4 with output 5 is finish; it makes 6, and 6 makes 7; 6 ends, and
 -- 4; only the end of 7 fires event 5.
 p8 : Edge
@@ -149,13 +175,15 @@ firstClaim =
     (λ s. s SlotMode (at 4 0) ≐ 1)
 
 -- "P1 to P10 are shown of the rules as one tabled statement", with the false roads that have no P
-pub edges : List Edge
-edges = p1 ∷ p2 ∷ p3 ∷ p4 ∷ p5 ∷ p8 ∷ p8-then ∷ p9 ∷ p10 ∷ readyStays ∷ grantWhole ∷ firstClaim ∷ []
+pub edges : List Formula
+edges =
+    isMet p1 ∷ isMet p2 ∷ isMet p3 ∷ isMet p4 ∷ isMet p5 ∷ p6 ∷ p7 ∷ isMet p8 ∷ isMet p8-then ∷ isMet p9 ∷ isMet p10
+    ∷ isMet readyStays ∷ isMet grantWhole ∷ isMet firstClaim ∷ []
 
-abbrev pub allMet : List Edge → Formula
-allMet [] = 0 ≐ 0
-allMet (e ∷ es) = isMet e and allMet es
+abbrev pub allOf : List Formula → Formula
+allOf [] = 0 ≐ 0
+allOf (e ∷ es) = e and allOf es
 
-pub edges-hold : holds (allMet edges)
-unfolding edges p1 p2 p3 p4 p5 p8 p8-then p9 p10 readyStays grantWhole firstClaim plays put change test count under refusal new newTemplate newEvent newTask makeTask newBlock fire fireOne satisfySlot tally satisfyEvent satisfy claim newLink depend buryDoomed letGo release destroyEvent fireFinished destroyTask destroyBlock destroy drops deliver grant start end rules freshSession answer after outcome
-edges-hold = passed (allMet edges) refl
+pub edges-hold : holds (allOf edges)
+unfolding edges p1 p2 p3 p4 p5 p6 p7 p8 p8-then p9 p10 readyStays grantWhole firstClaim plays refusalOf valueOf readAt readFirst judged shortest lastByte value more liveTasks undeliveredLinks put change test count under refusal new newTemplate newEvent newTask makeTask newBlock fire fireOne satisfySlot tally satisfyEvent satisfy claim newLink depend buryDoomed letGo release destroyEvent fireFinished destroyTask destroyBlock destroy drops deliver grant start end rules freshSession answer after outcome
+edges-hold = passed (allOf edges) refl
