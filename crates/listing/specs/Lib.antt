@@ -1,0 +1,4 @@
+pub mod Names
+pub mod Listing
+pub mod ListingLaws
+pub mod TextLength

@@ -1,0 +1,166 @@
+// A sheet as text: its first number on a line, then a line for each record, with the operation's name in a comment.
+use record::Place;
+use rules::Arity;
+use rules::Operation;
+ghost use mathlib.Core.Path.{_≡_};
+ghost use Prim.Native.Nat.{_+_, _≤_};
+ghost use lib.ListN.{length, getD};
+ghost use Rattle.rules.specs.Arity.{isCode};
+ghost use Rattle.rules.specs.Formula.{holds};
+ghost use Rattle.record.specs.Reading.{fieldCount};
+ghost use Rattle.record.specs.Sheet.{recordsFrom};
+ghost use Rattle.listing.specs.Names.{nameOf};
+ghost use Rattle.listing.specs.Listing.{Put, fieldText, fieldsText, line, refusalLine, recordsText, answer, memory};
+
+// How many bytes of text a byte of the sheet takes at most, and how many more are asked for.
+pub const TEXT_A_BYTE: usize = 16;
+
+pub const TEXT_MORE: usize = 64;
+
+// What a sheet gives: the length of its text, or that the memory lent may be too short for it.
+pub enum Listed {
+    Text(usize),
+    NoRoom,
+}
+
+// Writes a sheet as text at the start of lent memory, which must have 16 bytes for each of the sheet's and 64 more. What can not
+// be read is told in a comment behind the records before it.
+pub fn to_text(sheet: &[u8], out: &mut [u8]) -> Listed
+    ensures answer { λ r. ⌜ r ≡ answer (now (sheet .entry)) (now (out .entry)) ⌝ }
+    ensures bytes { λ r. ⌜ now (out .exit) ≡ memory (now (sheet .entry)) (now (out .entry)) ⌝ }
+{
+    let room = out.len();
+    if room < TEXT_MORE {
+        return Listed::NoRoom;
+    }
+    if (room - TEXT_MORE) / TEXT_A_BYTE < sheet.len() {
+        return Listed::NoRoom;
+    }
+    match record::read_head(sheet) {
+        Place::Refused(n) => Listed::Text(write_refusal(0, n, out, 0)),
+        Place::Behind(first) => {
+            let used = write_bytes(b"1\n", out, 0);
+            Listed::Text(write_records(sheet, first, out, used))
+        }
+    }
+}
+
+// Writes the records from the first one's place on. Internal, as all below are: the caller has shown that there is room.
+fn write_records(sheet: &[u8], first: usize, out: &mut [u8], start: usize) -> usize
+    requires { ⌜ 1 ≤ first ⌝ }
+    requires { ⌜ start + length (recordsText 1 (recordsFrom (now sheet) (length (now sheet)) first)) ≤ length (now out) ⌝ }
+    ensures { λ r. ⌜ Put (now (out .entry)) start (recordsText 1 (recordsFrom (now (sheet .entry)) (length (now (sheet .entry))) first)) r (now (out .exit)) ⌝ }
+{
+    let mut at = first;
+    let mut used = start;
+    let mut k: u64 = 1;
+    while at < sheet.len() {
+        let r = record::read_record(sheet, at);
+        let refused = r.refused;
+        if 0 < refused {
+            return write_refusal(k, refused, out, used);
+        }
+        let op = r.operation;
+        used = write_line(op, out, used);
+        at = r.next;
+        k += 1;
+    }
+    used
+}
+
+// Writes the line of a record: its numbers, and the operation's name in a comment.
+fn write_line(op: Operation, out: &mut [u8], at: usize) -> usize
+    requires { ⌜ holds (isCode (op .code)) ⌝ }
+    requires { ⌜ at + length (line op) ≤ length (now out) ⌝ }
+    ensures { λ r. ⌜ Put (now (out .entry)) at (line op) r (now (out .exit)) ⌝ }
+{
+    let code = op.code;
+    let fields = op.fields;
+    let first = decimal::write(code, out, at);
+    let mark = write_fields(fields, field_count(code), out, first);
+    let name = write_bytes(b"  # ", out, mark);
+    let end = write_name(code, out, name);
+    write_bytes(b"\n", out, end)
+}
+
+// How many fields an operation of a known code has.
+fn field_count(code: u64) -> usize
+    requires { ⌜ holds (isCode code) ⌝ }
+    ensures count { λ r. ⌜ r ≡ fieldCount code ⌝ }
+    ensures five { λ r. ⌜ r ≤ 5 ⌝ }
+{
+    match rules::arity_of(code) {
+        Arity::Fields(n) => n,
+        Arity::Unknown => 0,
+    }
+}
+
+// Writes the first n fields, each behind a space.
+fn write_fields(fields: [u64; 5], n: usize, out: &mut [u8], start: usize) -> usize
+    requires { ⌜ n ≤ 5 ⌝ }
+    requires { ⌜ start + length (fieldsText n (λ k. getD fields k 0)) ≤ length (now out) ⌝ }
+    ensures { λ r. ⌜ Put (now (out .entry)) start (fieldsText n (λ k. getD fields k 0)) r (now (out .exit)) ⌝ }
+{
+    let mut at = start;
+    let mut k: usize = 0;
+    while k < n {
+        at = write_field(fields[k], out, at);
+        k += 1;
+    }
+    at
+}
+
+fn write_field(v: u64, out: &mut [u8], at: usize) -> usize
+    requires { ⌜ at + length (fieldText v) ≤ length (now out) ⌝ }
+    ensures { λ r. ⌜ Put (now (out .entry)) at (fieldText v) r (now (out .exit)) ⌝ }
+{
+    let number = write_bytes(b" ", out, at);
+    decimal::write(v, out, number)
+}
+
+// Writes the line that tells where a sheet can not be read on, and why.
+fn write_refusal(k: u64, refused: u64, out: &mut [u8], at: usize) -> usize
+    requires { ⌜ at + length (refusalLine k refused) ≤ length (now out) ⌝ }
+    ensures { λ r. ⌜ Put (now (out .entry)) at (refusalLine k refused) r (now (out .exit)) ⌝ }
+{
+    let number = write_bytes(b"# record ", out, at);
+    let middle = decimal::write(k, out, number);
+    let refusal = write_bytes(b": refusal ", out, middle);
+    let end = decimal::write(refused, out, refusal);
+    write_bytes(b"\n", out, end)
+}
+
+// Writes an operation's name.
+fn write_name(code: u64, out: &mut [u8], at: usize) -> usize
+    requires { ⌜ at + length (nameOf code) ≤ length (now out) ⌝ }
+    ensures { λ r. ⌜ Put (now (out .entry)) at (nameOf code) r (now (out .exit)) ⌝ }
+{
+    match code {
+        1 => write_bytes(b"template", out, at),
+        2 => write_bytes(b"task", out, at),
+        3 => write_bytes(b"event", out, at),
+        4 => write_bytes(b"block", out, at),
+        5 => write_bytes(b"dependence", out, at),
+        6 => write_bytes(b"satisfy", out, at),
+        7 => write_bytes(b"release", out, at),
+        8 => write_bytes(b"destroy", out, at),
+        9 => write_bytes(b"deliver", out, at),
+        10 => write_bytes(b"grant", out, at),
+        11 => write_bytes(b"start", out, at),
+        12 => write_bytes(b"end", out, at),
+        _ => at,
+    }
+}
+
+// Writes bytes, and answers the place behind them.
+fn write_bytes(bytes: &[u8], out: &mut [u8], at: usize) -> usize
+    requires { ⌜ at + length (now bytes) ≤ length (now out) ⌝ }
+    ensures { λ r. ⌜ Put (now (out .entry)) at (now (bytes .entry)) r (now (out .exit)) ⌝ }
+{
+    let mut k: usize = 0;
+    while k < bytes.len() {
+        out[at + k] = bytes[k];
+        k += 1;
+    }
+    at + k
+}
