@@ -1,0 +1,252 @@
+// A sheet, run on a session in lent memory: record after record, each with its answer line in lent memory.
+ghost use mathlib.Core.Path.{_≡_};
+ghost use mathlib.Core.Bool.{true};
+ghost use Prim.Native.Nat.{_+_, _≤_, _<_, _^_};
+ghost use lib.ListN.{length};
+ghost use Rattle.session.specs.Table.{Wrote, read, words};
+ghost use Rattle.session.specs.Fresh.{freshSession};
+ghost use Rattle.rules.specs.Formula.{holds, test};
+ghost use Rattle.rules.specs.Sound.{sound, kept};
+ghost use Rattle.rules.specs.Step.{step};
+ghost use Rattle.sheet.specs.Run.{hasRoom, withLine, runSheet};
+ghost use Rattle.sheet.specs.Going.{linesOf, Goes, Ends, runOf};
+ghost use Rattle.sheet.specs.Whole.{Ran};
+ghost use Rattle.sheet.specs.Closing.{closed};
+
+mod counts;
+
+use record::Place;
+use rules::Answer;
+use rules::Operation;
+use session::Field;
+
+// How many bytes must be free before a line is written.
+pub const LINE_ROOM: usize = 32;
+
+// How a run ended: the length of the lines, the number of the record begun last (0 for the sheet's first number), and the
+// refusal that ended it, 0 at the sheet's end.
+pub struct Ended {
+    pub used: usize,
+    pub number: u64,
+    pub ending: u64,
+}
+
+// What a record leads to: the place of the next one and the length of the lines, or the length of the lines and the refusal
+// that ends the sheet.
+pub enum Went {
+    On(usize, usize),
+    Stopped(usize, u64),
+}
+
+// Whether a line may be written behind the lines already there.
+fn has_room(lines: &[u8], used: usize) -> bool
+    ensures { λ r. ⌜ r ≡ test (hasRoom (linesOf (now (lines .entry)) used)) ⌝ }
+{
+    if lines.len() < used {
+        return false;
+    }
+    if lines.len() - used < LINE_ROOM {
+        return false;
+    }
+    true
+}
+
+// Whether the session is sound; `sure` says that the caller knows it to be kept, so that it need not be looked at.
+fn is_admitted(memory: &[u64], sure: bool) -> bool
+    requires { ⌜ (words ≤ length (now memory)) × (sure ≡ true → holds (kept (read (now memory)))) ⌝ }
+    ensures { λ r. ⌜ r ≡ test (sound (read (now (memory .entry)))) ⌝ }
+{
+    if sure {
+        return true;
+    }
+    sound::is_sound(memory)
+}
+
+// Writes a line, for which there is room. Internal: the numbers are small enough for 32 bytes.
+fn put_answer(lines: &mut [u8], used: usize, a: u64, b: u64, c: u64) -> usize
+    requires { ⌜ (used + 32 ≤ length (now lines)) × (b < 100) × (c < 10000) ⌝ }
+    ensures { λ r. ⌜ linesOf (now (lines .exit)) r ≡ withLine (linesOf (now (lines .entry)) used) a b c ⌝ }
+{
+    lines::put_line(lines, used, a, b, c)
+}
+
+// Runs an operation on a sound session and writes its line. Internal.
+fn answer_record(
+    memory: &mut [u64],
+    lines: &mut [u8],
+    used: usize,
+    number: u64,
+    op: Operation,
+) -> usize
+    requires { ⌜ (words ≤ length (now memory)) × holds (sound (read (now memory))) × (used + 32 ≤ length (now lines)) ⌝ }
+    ensures session { λ r. ⌜ Wrote (now (memory .entry)) (now (memory .exit)) (step (read (now (memory .entry))) op .leaves) ⌝ }
+    ensures line { λ r. ⌜
+        linesOf (now (lines .exit)) r ≡ withLine (linesOf (now (lines .entry)) used) number (step (read (now (memory .entry))) op .refused) (step (read (now (memory .entry))) op .made)
+        ⌝ }
+{
+    match engine::apply_sound(memory, op) {
+        Answer::Accepted(made) => put_answer(lines, used, number, 0, made),
+        Answer::Refused(refused) => put_answer(lines, used, number, refused, 0),
+    }
+}
+
+// Runs the record at a place, after k records. Internal.
+fn run_record(
+    sheet: &[u8],
+    at: usize,
+    k: u64,
+    memory: &mut [u64],
+    lines: &mut [u8],
+    used: usize,
+    sure: bool,
+) -> Went
+    requires { ⌜
+        (words ≤ length (now memory)) × (sure ≡ true → holds (kept (read (now memory)))) × (at < length (now sheet)) × (k + 1 < 2 ^ 64)
+        ⌝ }
+    ensures { λ r. ⌜
+        Goes (now (sheet .entry)) at k (now (memory .entry)) (now (memory .exit)) (now (lines .entry)) (now (lines .exit)) used r
+        ⌝ }
+{
+    let number = k + 1;
+    if !has_room(lines, used) {
+        return Went::Stopped(used, 1);
+    }
+    if !is_admitted(memory, sure) {
+        return Went::Stopped(put_answer(lines, used, number, 2, 0), 2);
+    }
+    let r = record::read_record(sheet, at);
+    let refused = r.refused;
+    if refused != 0 {
+        return Went::Stopped(put_answer(lines, used, number, refused, 0), refused);
+    }
+    let next = r.next;
+    Went::On(
+        next,
+        answer_record(memory, lines, used, number, r.operation),
+    )
+}
+
+// Runs the records from a place on. Internal.
+fn run_records(
+    sheet: &[u8],
+    first: usize,
+    memory: &mut [u64],
+    lines: &mut [u8],
+    used: usize,
+    sure: bool,
+) -> Ended
+    requires { ⌜ (words ≤ length (now memory)) × (sure ≡ true → holds (kept (read (now memory)))) ⌝ }
+    ensures { λ r. ⌜
+        Ends (now (memory .entry)) (now (memory .exit)) (now (lines .exit)) r (runOf (now (sheet .entry)) first (now (memory .entry)) (now (lines .entry)) used)
+        ⌝ }
+{
+    let mut at = first;
+    let mut behind = used;
+    let mut k: u64 = 0;
+    while at < sheet.len() {
+        match run_record(sheet, at, k, memory, lines, behind, sure) {
+            Went::On(next, longer) => {
+                at = next;
+                behind = longer;
+                k += 1;
+            }
+            Went::Stopped(last, ending) => {
+                return Ended {
+                    used: last,
+                    number: k + 1,
+                    ending,
+                };
+            }
+        }
+    }
+    Ended {
+        used: behind,
+        number: k,
+        ending: 0,
+    }
+}
+
+// Runs a sheet on memory of sufficient length. Internal; `sure` as in `is_admitted`.
+fn run_whole(sheet: &[u8], memory: &mut [u64], lines: &mut [u8], used: usize, sure: bool) -> Ended
+    requires { ⌜ (words ≤ length (now memory)) × (sure ≡ true → holds (kept (read (now memory)))) ⌝ }
+    ensures { λ r. ⌜
+        Ends (now (memory .entry)) (now (memory .exit)) (now (lines .exit)) r (runSheet (now (sheet .entry)) (read (now (memory .entry))) (linesOf (now (lines .entry)) used))
+        ⌝ }
+{
+    if !has_room(lines, used) {
+        return Ended {
+            used,
+            number: 0,
+            ending: 1,
+        };
+    }
+    if !is_admitted(memory, sure) {
+        let last = put_answer(lines, used, 0, 2, 0);
+        return Ended {
+            used: last,
+            number: 0,
+            ending: 2,
+        };
+    }
+    match record::read_head(sheet) {
+        Place::Refused(n) => {
+            let last = put_answer(lines, used, 0, n, 0);
+            Ended {
+                used: last,
+                number: 0,
+                ending: n,
+            }
+        }
+        Place::Behind(first) => run_records(sheet, first, memory, lines, used, sure),
+    }
+}
+
+// Runs a sheet on a session in lent memory, with its lines behind those already in lent memory.
+pub fn run(sheet: &[u8], memory: &mut [u64], lines: &mut [u8], used: usize) -> Ended
+    ensures { λ r. ⌜
+        Ran (now (sheet .entry)) (now (memory .entry)) (now (memory .exit)) (now (lines .entry)) (now (lines .exit)) used r (read (now (memory .entry)))
+        ⌝ }
+{
+    if memory.len() < session::names::WORDS {
+        return Ended {
+            used,
+            number: 0,
+            ending: 1,
+        };
+    }
+    run_whole(sheet, memory, lines, used, false)
+}
+
+// Runs a sheet from a fresh session, which is written into lent memory first. Every session from there on is kept, so that
+// none is looked at again.
+pub fn run_fresh(sheet: &[u8], memory: &mut [u64], lines: &mut [u8], used: usize) -> Ended
+    ensures { λ r. ⌜
+        Ran (now (sheet .entry)) (now (memory .entry)) (now (memory .exit)) (now (lines .entry)) (now (lines .exit)) used r freshSession
+        ⌝ }
+{
+    if !session::write_fresh(memory) {
+        return Ended {
+            used,
+            number: 0,
+            ending: 1,
+        };
+    }
+    run_whole(sheet, memory, lines, used, true)
+}
+
+// Writes the last line behind the lines already there, and answers their length. Under check 1 (no room for a line, or memory
+// too short for a session) nothing is written.
+pub fn put_last_line(memory: &[u64], lines: &mut [u8], used: usize) -> usize
+    ensures { λ r. ⌜ linesOf (now (lines .exit)) r ≡ closed (now (memory .entry)) (linesOf (now (lines .entry)) used) ⌝ }
+{
+    if memory.len() < session::names::WORDS {
+        return used;
+    }
+    if !has_room(lines, used) {
+        return used;
+    }
+    let tasks = counts::live_tasks(memory);
+    let links = counts::undelivered_links(memory);
+    let dropped = session::get(memory, Field::Dropped, 0);
+    lines::put_line(lines, used, tasks, links, dropped)
+}
