@@ -19,7 +19,6 @@ import time
 
 ROOT = os.path.dirname(os.path.dirname(os.path.abspath(__file__)))
 LAWS = os.path.join(ROOT, 'crates', 'laws', 'specs')
-BOOK = 'Rattle.rules.specs.Book'
 
 # name, the file of `laws` that has the theorem, the file of `rules`, old text, new text
 MUTANTS = [
@@ -36,8 +35,8 @@ MUTANTS = [
      '(choose (isKind s task d) r (satisfy r d j (s EventPayload (s LinkSource l))))'),
     ('link-stays-ready', 'Deliver', 'Effects', 'put s LinkState l delivered', 'put s LinkState l ready'),
     ('drop-counts-twice', 'Deliver', 'Effects', '(s Dropped 0 + 1)', '(s Dropped 0 + 2)'),
-    # a session stays sound under this one; what it breaks is demand 3, as what is granted never starts
-    ('start-from-resolved', 'Start', 'Checks', '(s TaskState t ≐ granted) ∷ []', '(s TaskState t ≐ resolved) ∷ []'),
+    # a session stays sound under this one; what it breaks is the falling count, as such a start takes two steps at once
+    ('start-from-resolved', 'Falling', 'Checks', '(s TaskState t ≐ granted) ∷ []', '(s TaskState t ≐ resolved) ∷ []'),
     ('destroyed-event-drops-ready-links', 'DestroyEvent', 'Effects',
      '(s LinkState l ≐ linkOpen)) cut', '(s LinkState l ≼ ready)) cut'),
     ('second-claim-replaces', 'Dependence', 'Checks',
@@ -46,8 +45,7 @@ MUTANTS = [
      'fires (s LinkSource l)) ready (s LinkState l)', 'fires (s LinkSource l)) linkOpen (s LinkState l)'),
     ('doomed-blocks-stay', 'Release', 'Effects',
      'doomed and not (isHeld s b)) blockDestroyed', 'doomed and not (isHeld s b)) doomed'),
-    # caught once `laws` has theorems about the book
-    ('book-does-not-count-deliveries', BOOK, 'Book',
+    ('book-does-not-count-deliveries', 'RelatedDeliver', 'Book',
      'enterDeliver b l = satisfies (enter b Struck l 1) (b LinkTarget l) (b LinkSlot l) (b Has (b LinkSource l))',
      'enterDeliver b l = enter b Struck l 1'),
 ]
@@ -94,9 +92,8 @@ def modules():
 
 
 def needed(module):
-    """A file of `laws` and those that it needs; for the book, all that speak of it and what they need."""
-    wanted = [name for name in modules() if BOOK in text_of(name)] if module == BOOK else [module]
-    found = set()
+    """A file of `laws` and those that it needs."""
+    wanted, found = [module], set()
     while wanted:
         name = wanted.pop()
         if name not in found:
@@ -149,12 +146,9 @@ def check_laws(folder, names):
 
 def tried(folder, theorem, module, old, new):
     """Whether a mutant is caught, and by what."""
-    names = needed(theorem)
-    if not names:
-        return None, 'left out: laws says nothing of the book yet'
     path = os.path.join(folder, 'crates', 'rules', 'specs', module + '.antt')
     text = edit(path, old, new)
-    output, status = check_laws(folder, names)
+    output, status = check_laws(folder, needed(theorem))
     write(path, text)
     return verdict(output, status)
 
@@ -171,10 +165,9 @@ def main():
                 continue
             began = time.time()
             caught, why = tried(folder, *mutant)
-            if caught is not None:
-                passed, failed = passed + caught, failed + (not caught)
-                why = '%s, %s (%d s)' % ('caught' if caught else 'NOT caught', why, time.time() - began)
-            print('%s: %s' % (name, why), flush=True)
+            passed, failed = passed + caught, failed + (not caught)
+            word = 'caught' if caught else 'NOT caught'
+            print('%s: %s, %s (%d s)' % (name, word, why, time.time() - began), flush=True)
     print('%d passed, %d failed' % (passed, failed))
     return 1 if failed or not passed else 0
 

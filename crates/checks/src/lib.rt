@@ -38,6 +38,7 @@ use crate::objects::is_unclaimed;
 use crate::objects::is_user_event;
 use crate::objects::overflows;
 use crate::objects::remains_or_null;
+use rules::refusals;
 use session::Field;
 use session::names;
 
@@ -46,13 +47,13 @@ pub fn template_refusal(s: &[u64], caller: u64, n: u64) -> u64
     ensures { λ r. ⌜ r ≡ refusal (templateChecks (read (now (s .entry))) caller n) ⌝ }
 {
     if names::UNKNOWN_COUNT < n {
-        return 7;
+        return refusals::OUT_OF_RANGE;
     }
     if !is_running(s, caller) {
-        return 8;
+        return refusals::CALLER_NOT_RUNNING;
     }
     if !has_room(s, 1) {
-        return 20;
+        return refusals::TOO_MANY_OBJECTS;
     }
     0
 }
@@ -62,31 +63,31 @@ pub fn task_refusal(s: &[u64], caller: u64, template: u64, n: u64, finish: u64, 
     ensures { λ r. ⌜ r ≡ refusal (taskChecks (read (now (s .entry))) caller template n finish output) ⌝ }
 {
     if names::UNKNOWN_COUNT < n {
-        return 7;
+        return refusals::OUT_OF_RANGE;
     }
     if 1 < finish {
-        return 7;
+        return refusals::OUT_OF_RANGE;
     }
     if 1 < output {
-        return 7;
+        return refusals::OUT_OF_RANGE;
     }
     if !is_running(s, caller) {
-        return 8;
+        return refusals::CALLER_NOT_RUNNING;
     }
     if !is_made(s, template) {
-        return 9;
+        return refusals::NEVER_MADE;
     }
     if !is_kind(s, names::TEMPLATE, template) {
-        return 10;
+        return refusals::WRONG_KIND;
     }
     if is_gone(s, template) {
-        return 11;
+        return refusals::GONE;
     }
     if !is_count(s, template, n) {
-        return 12;
+        return refusals::NO_SUCH_SLOT;
     }
     if !has_room(s, 1 + output) {
-        return 20;
+        return refusals::TOO_MANY_OBJECTS;
     }
     0
 }
@@ -96,16 +97,16 @@ pub fn event_refusal(s: &[u64], caller: u64, ty: u64) -> u64
     ensures { λ r. ⌜ r ≡ refusal (eventChecks (read (now (s .entry))) caller ty) ⌝ }
 {
     if ty < names::ONCE {
-        return 7;
+        return refusals::OUT_OF_RANGE;
     }
     if names::LATCH < ty {
-        return 7;
+        return refusals::OUT_OF_RANGE;
     }
     if !is_running(s, caller) {
-        return 8;
+        return refusals::CALLER_NOT_RUNNING;
     }
     if !has_room(s, 1) {
-        return 20;
+        return refusals::TOO_MANY_OBJECTS;
     }
     0
 }
@@ -115,13 +116,13 @@ pub fn block_refusal(s: &[u64], caller: u64, hold: u64) -> u64
     ensures { λ r. ⌜ r ≡ refusal (blockChecks (read (now (s .entry))) caller hold) ⌝ }
 {
     if 1 < hold {
-        return 7;
+        return refusals::OUT_OF_RANGE;
     }
     if !is_running(s, caller) {
-        return 8;
+        return refusals::CALLER_NOT_RUNNING;
     }
     if !has_room(s, 1) {
-        return 20;
+        return refusals::TOO_MANY_OBJECTS;
     }
     0
 }
@@ -133,15 +134,15 @@ fn satisfy_or_link_refusal(s: &[u64], source: u64, d: u64, j: u64) -> u64
 {
     if is_kind(s, names::EVENT, source) {
         if names::MOST_LINKS <= session::get(s, Field::Links, 0) {
-            return 21;
+            return refusals::TOO_MANY_LINKS;
         }
         return 0;
     }
     if is_fired_sticky(s, d) {
-        return 14;
+        return refusals::STICKY_FIRED;
     }
     if overflows(s, d, j) {
-        return 19;
+        return refusals::LATCH_RANGE;
     }
     0
 }
@@ -151,37 +152,37 @@ pub fn dependence_refusal(s: &[u64], caller: u64, source: u64, d: u64, j: u64, m
     ensures { λ r. ⌜ r ≡ refusal (dependenceChecks (read (now (s .entry))) caller source d j mode) ⌝ }
 {
     if mode < names::RO {
-        return 7;
+        return refusals::OUT_OF_RANGE;
     }
     if names::CONST < mode {
-        return 7;
+        return refusals::OUT_OF_RANGE;
     }
     if !is_running(s, caller) {
-        return 8;
+        return refusals::CALLER_NOT_RUNNING;
     }
     if !is_made_or_null(s, source) {
-        return 9;
+        return refusals::NEVER_MADE;
     }
     if !is_made(s, d) {
-        return 9;
+        return refusals::NEVER_MADE;
     }
     if !is_source(s, source) {
-        return 10;
+        return refusals::WRONG_KIND;
     }
     if !is_destination(s, d) {
-        return 10;
+        return refusals::WRONG_KIND;
     }
     if !remains_or_null(s, source) {
-        return 11;
+        return refusals::GONE;
     }
     if is_gone(s, d) {
-        return 11;
+        return refusals::GONE;
     }
     if !has_slot(s, d, j) {
-        return 12;
+        return refusals::NO_SUCH_SLOT;
     }
     if !is_unclaimed(s, d, j) {
-        return 13;
+        return refusals::ALREADY_CLAIMED;
     }
     satisfy_or_link_refusal(s, source, d, j)
 }
@@ -191,34 +192,34 @@ pub fn satisfy_refusal(s: &[u64], caller: u64, e: u64, b: u64, j: u64) -> u64
     ensures { λ r. ⌜ r ≡ refusal (satisfyChecks (read (now (s .entry))) caller e b j) ⌝ }
 {
     if !is_running(s, caller) {
-        return 8;
+        return refusals::CALLER_NOT_RUNNING;
     }
     if !is_made(s, e) {
-        return 9;
+        return refusals::NEVER_MADE;
     }
     if !is_made_or_null(s, b) {
-        return 9;
+        return refusals::NEVER_MADE;
     }
     if !is_user_event(s, e) {
-        return 10;
+        return refusals::WRONG_KIND;
     }
     if !is_block_or_null(s, b) {
-        return 10;
+        return refusals::WRONG_KIND;
     }
     if is_gone(s, e) {
-        return 11;
+        return refusals::GONE;
     }
     if !remains_or_null(s, b) {
-        return 11;
+        return refusals::GONE;
     }
     if !has_slot(s, e, j) {
-        return 12;
+        return refusals::NO_SUCH_SLOT;
     }
     if is_fired_sticky(s, e) {
-        return 14;
+        return refusals::STICKY_FIRED;
     }
     if overflows(s, e, j) {
-        return 19;
+        return refusals::LATCH_RANGE;
     }
     0
 }
@@ -228,19 +229,19 @@ pub fn release_refusal(s: &[u64], caller: u64, b: u64) -> u64
     ensures { λ r. ⌜ r ≡ refusal (releaseChecks (read (now (s .entry))) caller b) ⌝ }
 {
     if !is_running(s, caller) {
-        return 8;
+        return refusals::CALLER_NOT_RUNNING;
     }
     if !is_made(s, b) {
-        return 9;
+        return refusals::NEVER_MADE;
     }
     if !is_kind(s, names::BLOCK, b) {
-        return 10;
+        return refusals::WRONG_KIND;
     }
     if of(s, Field::BlockState, b) == names::BLOCK_DESTROYED {
-        return 11;
+        return refusals::GONE;
     }
     if !holds_block(s, caller, b) {
-        return 15;
+        return refusals::NOT_HELD;
     }
     0
 }
@@ -250,19 +251,19 @@ pub fn destroy_refusal(s: &[u64], caller: u64, h: u64) -> u64
     ensures { λ r. ⌜ r ≡ refusal (destroyChecks (read (now (s .entry))) caller h) ⌝ }
 {
     if !is_running(s, caller) {
-        return 8;
+        return refusals::CALLER_NOT_RUNNING;
     }
     if !is_made(s, h) {
-        return 9;
+        return refusals::NEVER_MADE;
     }
     if !is_destroyable(s, h) {
-        return 10;
+        return refusals::WRONG_KIND;
     }
     if is_gone(s, h) {
-        return 11;
+        return refusals::GONE;
     }
     if !is_idle(s, h) {
-        return 16;
+        return refusals::WRONG_STATE;
     }
     0
 }
@@ -272,13 +273,13 @@ pub fn deliver_refusal(s: &[u64], l: u64) -> u64
     ensures { λ r. ⌜ r ≡ refusal (deliverChecks (read (now (s .entry))) l) ⌝ }
 {
     if l == 0 {
-        return 9;
+        return refusals::NEVER_MADE;
     }
     if session::get(s, Field::Links, 0) < l {
-        return 9;
+        return refusals::NEVER_MADE;
     }
     if state_of_link(s, l) != names::READY {
-        return 16;
+        return refusals::WRONG_STATE;
     }
     0
 }
@@ -289,23 +290,23 @@ pub fn grant_refusal(s: &[u64], t: u64) -> u64
     ensures { λ r. ⌜ r ≡ refusal (grantChecks (read (now (s .entry))) t) ⌝ }
 {
     if !is_made(s, t) {
-        return 9;
+        return refusals::NEVER_MADE;
     }
     if !is_kind(s, names::TASK, t) {
-        return 10;
+        return refusals::WRONG_KIND;
     }
     if is_gone(s, t) {
-        return 11;
+        return refusals::GONE;
     }
     if of(s, Field::TaskState, t) != names::RESOLVED {
-        return 16;
+        return refusals::WRONG_STATE;
     }
     let task = task_at(s, t as usize);
     if !blocks_remain(s, t, task) {
-        return 17;
+        return refusals::BLOCK_GONE;
     }
     if !is_free(s, t, task) {
-        return 18;
+        return refusals::CONFLICTING_HOLD;
     }
     0
 }
@@ -315,16 +316,16 @@ pub fn start_refusal(s: &[u64], t: u64) -> u64
     ensures { λ r. ⌜ r ≡ refusal (startChecks (read (now (s .entry))) t) ⌝ }
 {
     if !is_made(s, t) {
-        return 9;
+        return refusals::NEVER_MADE;
     }
     if !is_kind(s, names::TASK, t) {
-        return 10;
+        return refusals::WRONG_KIND;
     }
     if is_gone(s, t) {
-        return 11;
+        return refusals::GONE;
     }
     if of(s, Field::TaskState, t) != names::GRANTED {
-        return 16;
+        return refusals::WRONG_STATE;
     }
     0
 }
@@ -334,25 +335,25 @@ pub fn end_refusal(s: &[u64], t: u64, b: u64) -> u64
     ensures { λ r. ⌜ r ≡ refusal (endChecks (read (now (s .entry))) t b) ⌝ }
 {
     if !is_made(s, t) {
-        return 9;
+        return refusals::NEVER_MADE;
     }
     if !is_made_or_null(s, b) {
-        return 9;
+        return refusals::NEVER_MADE;
     }
     if !is_kind(s, names::TASK, t) {
-        return 10;
+        return refusals::WRONG_KIND;
     }
     if !is_block_or_null(s, b) {
-        return 10;
+        return refusals::WRONG_KIND;
     }
     if is_gone(s, t) {
-        return 11;
+        return refusals::GONE;
     }
     if !remains_or_null(s, b) {
-        return 11;
+        return refusals::GONE;
     }
     if of(s, Field::TaskState, t) != names::RUNNING {
-        return 16;
+        return refusals::WRONG_STATE;
     }
     0
 }

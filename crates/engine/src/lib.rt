@@ -12,6 +12,7 @@ mod operations;
 
 use rules::Answer;
 use rules::Operation;
+use rules::refusals;
 
 // Runs an operation on a session that its caller has shown to be sound, in memory of sufficient length: checks 1 and 2 are
 // skipped. Internal, for callers that know.
@@ -35,10 +36,10 @@ pub fn apply(memory: &mut [u64], op: Operation) -> Answer
     ensures { λ r. ⌜ Answered (now (memory .entry)) (now (memory .exit)) op r ⌝ }
 {
     if memory.len() < session::names::WORDS {
-        return Answer::Refused(1);
+        return Answer::Refused(refusals::NO_ROOM);
     }
     if !sound::is_sound(memory) {
-        return Answer::Refused(2);
+        return Answer::Refused(refusals::NOT_SOUND);
     }
     apply_sound(memory, op)
 }

@@ -1,5 +1,6 @@
 // The operations, each with its checks and then its effect. Internal: callers have shown the length and a sound session.
 use rules::Answer;
+use rules::refusals;
 ghost use mathlib.Core.Path.{_≡_};
 ghost use Prim.Native.Nat.{_+_, _≤_, _<_};
 ghost use lib.ListN.{length};
@@ -184,7 +185,7 @@ pub fn make(s: &mut [u64], code: u64, f: [u64; 5]) -> Answer
         2 => task(s, f[0], f[1], f[2], f[3], f[4]),
         3 => event(s, f[0], f[1]),
         4 => block(s, f[0], f[1]),
-        _ => Answer::Refused(6),
+        _ => Answer::Refused(refusals::UNKNOWN_CODE),
     }
 }
 
@@ -211,6 +212,6 @@ pub fn move_on(s: &mut [u64], code: u64, f: [u64; 5]) -> Answer
         10 => grant(s, f[0]),
         11 => start_task(s, f[0]),
         12 => end_task(s, f[0], f[1]),
-        _ => Answer::Refused(6),
+        _ => Answer::Refused(refusals::UNKNOWN_CODE),
     }
 }

@@ -4,6 +4,7 @@ use number::Reading;
 use number::Written;
 use rules::Arity;
 use rules::Operation;
+use rules::refusals;
 ghost use mathlib.Core.Path.{_≡_};
 ghost use Prim.Native.Nat.{_+_, _≤_, _<_};
 ghost use lib.ListN.{length, getD};
@@ -35,13 +36,13 @@ pub fn read_head(bytes: &[u8]) -> Place
     ensures { λ r. ⌜ r ≡ headAt (now (bytes .entry)) ⌝ }
 {
     match number::read(bytes, 0, LIMIT_32) {
-        Reading::CutShort => Place::Refused(3),
-        Reading::Bad(_) => Place::Refused(4),
+        Reading::CutShort => Place::Refused(refusals::CUT_SHORT),
+        Reading::Bad(_) => Place::Refused(refusals::BAD_NUMBER),
         Reading::Value(version, first) => {
             if version == 1 {
                 Place::Behind(first)
             } else {
-                Place::Refused(5)
+                Place::Refused(refusals::NOT_A_SHEET)
             }
         }
     }
@@ -52,10 +53,10 @@ pub fn read_record(bytes: &[u8], at: usize) -> Record
     ensures { λ r. ⌜ r ≡ recordAt (now (bytes .entry)) at ⌝ }
 {
     match number::read(bytes, at, LIMIT_32) {
-        Reading::CutShort => refuse(3),
-        Reading::Bad(_) => refuse(4),
+        Reading::CutShort => refuse(refusals::CUT_SHORT),
+        Reading::Bad(_) => refuse(refusals::BAD_NUMBER),
         Reading::Value(code, first) => match rules::arity_of(code) {
-            Arity::Unknown => refuse(6),
+            Arity::Unknown => refuse(refusals::UNKNOWN_CODE),
             Arity::Fields(n) => read_fields(bytes, code, first, n),
         },
     }
@@ -86,10 +87,10 @@ fn read_fields(bytes: &[u8], code: u64, first: usize, n: usize) -> Record
     while k < n {
         match number::read(bytes, next, LIMIT_32) {
             Reading::CutShort => {
-                return refuse(3);
+                return refuse(refusals::CUT_SHORT);
             }
             Reading::Bad(past) => {
-                refused = 4;
+                refused = refusals::BAD_NUMBER;
                 next = past;
             }
             Reading::Value(v, behind) => {
@@ -115,23 +116,23 @@ pub fn write_record(op: Operation, out: &mut [u8], used: usize) -> Place
     ensures bytes { λ r. ⌜ now (out .exit) ≡ memoryAfter op (now (out .entry)) used ⌝ }
 {
     if out.len() < used {
-        return Place::Refused(1);
+        return Place::Refused(refusals::NO_ROOM);
     }
     if out.len() - used < RECORD_ROOM {
-        return Place::Refused(1);
+        return Place::Refused(refusals::NO_ROOM);
     }
     let code = op.code;
     if LIMIT_32 < code {
-        return Place::Refused(4);
+        return Place::Refused(refusals::BAD_NUMBER);
     }
     match rules::arity_of(code) {
-        Arity::Unknown => Place::Refused(6),
+        Arity::Unknown => Place::Refused(refusals::UNKNOWN_CODE),
         Arity::Fields(n) => {
             let fields = op.fields;
             if all_within(fields, n) {
                 Place::Behind(write_numbers(code, fields, n, out, used))
             } else {
-                Place::Refused(4)
+                Place::Refused(refusals::BAD_NUMBER)
             }
         }
     }

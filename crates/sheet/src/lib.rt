@@ -18,6 +18,7 @@ mod counts;
 use record::Place;
 use rules::Answer;
 use rules::Operation;
+use rules::refusals;
 use session::Field;
 
 // How many bytes must be free before a line is written.
@@ -109,10 +110,13 @@ fn run_record(
 {
     let number = k + 1;
     if !has_room(lines, used) {
-        return Went::Stopped(used, 1);
+        return Went::Stopped(used, refusals::NO_ROOM);
     }
     if !is_admitted(memory, sure) {
-        return Went::Stopped(put_answer(lines, used, number, 2, 0), 2);
+        return Went::Stopped(
+            put_answer(lines, used, number, refusals::NOT_SOUND, 0),
+            refusals::NOT_SOUND,
+        );
     }
     let r = record::read_record(sheet, at);
     let refused = r.refused;
@@ -177,15 +181,15 @@ fn run_whole(sheet: &[u8], memory: &mut [u64], lines: &mut [u8], used: usize, su
         return Ended {
             used,
             number: 0,
-            ending: 1,
+            ending: refusals::NO_ROOM,
         };
     }
     if !is_admitted(memory, sure) {
-        let last = put_answer(lines, used, 0, 2, 0);
+        let last = put_answer(lines, used, 0, refusals::NOT_SOUND, 0);
         return Ended {
             used: last,
             number: 0,
-            ending: 2,
+            ending: refusals::NOT_SOUND,
         };
     }
     match record::read_head(sheet) {
@@ -211,7 +215,7 @@ pub fn run(sheet: &[u8], memory: &mut [u64], lines: &mut [u8], used: usize) -> E
         return Ended {
             used,
             number: 0,
-            ending: 1,
+            ending: refusals::NO_ROOM,
         };
     }
     run_whole(sheet, memory, lines, used, false)
@@ -228,7 +232,7 @@ pub fn run_fresh(sheet: &[u8], memory: &mut [u64], lines: &mut [u8], used: usize
         return Ended {
             used,
             number: 0,
-            ending: 1,
+            ending: refusals::NO_ROOM,
         };
     }
     run_whole(sheet, memory, lines, used, true)

@@ -1,4 +1,5 @@
 mod by_operation;
+mod sheets;
 
 use std::time::{Duration, Instant};
 
@@ -49,6 +50,8 @@ fn main() {
     println!("| 512 over 64 | | {:.1} | {:.1} | {:.1} | {:.1} |", growth(0), growth(1), growth(2), growth(3));
     println!();
     by_operation::print_table([(64, 256), (512, 2_048)]);
+    println!();
+    sheets::print_tables();
 }
 
 fn speed_rows(name: &str, row: &Figures) {

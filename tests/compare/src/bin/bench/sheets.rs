@@ -1,0 +1,123 @@
+//! Records per second of the two sheet programs, each run as a process with the sheet on its standard input.
+
+use std::fs::File;
+use std::path::{Path, PathBuf};
+use std::process::{Command, Stdio};
+use std::time::{Duration, Instant};
+use std::{env, fs, process};
+
+use compare::stages::Grown;
+use second::sheets::random_sheet;
+use second::{write_record, EventState, EventType, Object, Operation, TaskState};
+
+use crate::median;
+
+/// Runs of a sheet, of which the median counts.
+const ROUNDS: usize = 51;
+
+/// For steady records, where the time of one run is taken from that of another.
+const STEADY_ROUNDS: usize = 201;
+
+const SEED: u64 = 20_261_115;
+
+/// The generator's sheets come in sixteen themes: sheet 1 of them is short, sheet 8 as long as a sheet can be.
+const THEMES: u64 = 16;
+const SETS: [(&str, u64, u64); 2] = [("short", 1, 40), ("long", 8, 10)];
+
+/// A session's objects and links, and how many steady records follow.
+const STEADY: [(&str, u64, u64, [u64; 3]); 2] =
+    [("small", 32, 128, [500, 2_000, 5_000]), ("full", 512, 2_048, [500, 1_000, 2_000])];
+
+pub fn print_tables() {
+    println!("| sheets | of them | records | bytes a sheet | proved, records/s | second, records/s | proved / second |");
+    println!("|---|---|---|---|---|---|---|");
+    for (name, theme, count) in SETS {
+        print_set(name, (0..count).map(|turn| random_sheet(SEED, turn * THEMES + theme)).collect());
+    }
+    println!();
+    println!("| session | objects | links | steady records | proved, ns/record | second, ns/record | proved / second |");
+    println!("|---|---|---|---|---|---|---|");
+    for (name, objects, links, counts) in STEADY {
+        print_steady(name, objects, links, &counts);
+    }
+}
+
+/// The whole time of the processes, from their start to their end.
+fn print_set(name: &str, sheets: Vec<Vec<u8>>) {
+    let (mut times, mut records, mut bytes) = ([Duration::ZERO; 2], 0, 0);
+    for sheet in &sheets {
+        let (medians, lines) = measure(sheet, ROUNDS);
+        times.iter_mut().zip(medians).for_each(|(sum, median)| *sum += median);
+        records += lines - 1;
+        bytes += sheet.len();
+    }
+    let [proved, second] = times.map(|time| records as f64 / time.as_secs_f64());
+    let (count, each) = (sheets.len(), bytes / sheets.len());
+    println!("| {name} | {count} | {records} | {each} | {proved:.0} | {second:.0} | {:.2} |", proved / second);
+}
+
+/// What each record more costs on a session that keeps its size.
+fn print_steady(name: &str, objects: u64, links: u64, counts: &[u64]) {
+    let grown = Grown::to(11, objects, links);
+    let base = measure(&steady_sheet(&grown, 0), STEADY_ROUNDS).0;
+    for count in counts {
+        let times = measure(&steady_sheet(&grown, *count), STEADY_ROUNDS).0;
+        let more = |program: usize| (times[program].as_nanos() as f64 - base[program].as_nanos() as f64) / *count as f64;
+        let [proved, second] = [more(0), more(1)];
+        println!("| {name} | {objects} | {links} | {count} | {proved:.0} | {second:.0} | {:.2} |", second / proved);
+    }
+}
+
+/// The calls that lead to the session and two steps up of a latch; then so many records that leave all sizes as they
+/// are: by turns a step up of the latch, a refused grant, a step down and a refused start.
+fn steady_sheet(grown: &Grown, count: u64) -> Vec<u8> {
+    let latch = place(grown, |object| match object {
+        Object::Event(event) => event.kind == EventType::Latch && event.state == EventState::Open && event.tally >= 0,
+        _ => false,
+    });
+    let caller = place(grown, |object| matches!(object, Object::Task(task) if task.state == TaskState::Running));
+    let step = |up: u64| Operation::new(6, &[caller, latch, 0, up]);
+    let turns = [step(1), Operation::new(10, &[caller]), step(0), Operation::new(11, &[caller])];
+    let mut sheet = vec![1];
+    let mut put = |call: &Operation| sheet.extend(write_record(call).expect("a record"));
+    grown.calls.iter().for_each(&mut put);
+    (0..2).for_each(|_| put(&step(1)));
+    turns.iter().cycle().take(count as usize).for_each(put);
+    sheet
+}
+
+/// The first handle of such an object.
+fn place(grown: &Grown, suits: impl Fn(&Object) -> bool) -> u64 {
+    1 + grown.session.objects.iter().position(suits).expect("such an object") as u64
+}
+
+/// The median times of both programs on a sheet, and how many lines they print: the same, which is looked at first.
+fn measure(sheet: &[u8], rounds: usize) -> ([Duration; 2], usize) {
+    let file = env::temp_dir().join(format!("faltxigor-{}.sheet", process::id()));
+    fs::write(&file, sheet).expect("a file for the sheet");
+    let programs = programs();
+    let printed = [0, 1].map(|program| run(&programs[program], &file).1);
+    assert!(printed[0] == printed[1], "the programs print other lines");
+    let mut times = [vec![], vec![]];
+    for _ in 0..rounds {
+        times.iter_mut().zip(&programs).for_each(|(times, program)| times.push(run(program, &file).0));
+    }
+    fs::remove_file(&file).expect("the file goes");
+    (times.map(median), printed[0].iter().filter(|byte| **byte == b'\n').count())
+}
+
+fn programs() -> [PathBuf; 2] {
+    let root = Path::new(env!("CARGO_MANIFEST_DIR")).join("../..");
+    [root.join("target/bin/ocr_sheet"), root.join("tests/second/target/release/sheet")]
+}
+
+fn run(program: &Path, sheet: &Path) -> (Duration, Vec<u8>) {
+    let input = File::open(sheet).expect("the sheet");
+    let mut command = Command::new(program);
+    command.stdin(input).stdout(Stdio::piped());
+    let began = Instant::now();
+    let output = command.output().unwrap_or_else(|error| panic!("{}: {error}", program.display()));
+    let time = began.elapsed();
+    assert!(output.status.success(), "{} fails", program.display());
+    (time, output.stdout)
+}
