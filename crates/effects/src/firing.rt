@@ -1,4 +1,4 @@
-// Firing an event.
+// Firing an event, and the state of its open links.
 use session::Field;
 ghost use mathlib.Core.Path.{_≡_};
 ghost use Prim.Native.Nat.{_≤_, _<_};
@@ -6,42 +6,58 @@ ghost use lib.ListN.{length};
 ghost use Rattle.session.specs.Table.{Wrote, read, put, words};
 ghost use Rattle.session.specs.declared.Field.the-variants.{Links, LinkState};
 ghost use Rattle.rules.specs.Effects.{fireOne};
-ghost use Rattle.effects.specs.Firing.{stateAfter, linkAfter, linksAfter, NoMoreLinks};
+ghost use Rattle.effects.specs.Firing.{linkSet, openLinksSet, NoMoreLinks, Passed};
 
-// The state of a link once the event has fired.
-fn state_after(state: u64, source: u64, e: u64) -> u64
-    ensures { λ r. ⌜ r ≡ stateAfter state source e ⌝ }
+// The first link from l on that is from event e; l + 8 where none of eight is. Near the last place, where eight more may not
+// be there, it is l. The bound is constant, so that the eight tests stand in a row. Internal: callers have shown the length
+// and the link.
+fn past_others(s: &[u64], e: u64, l: usize) -> usize
+    requires { ⌜ (words ≤ length (now s)) × (l < 2049) ⌝ }
+    ensures { λ r. ⌜ Passed (read (now (s .entry))) e l r ⌝ }
 {
-    if state == session::names::LINK_OPEN {
-        if source == e {
-            return session::names::READY;
-        }
+    if 2041 < l {
+        return l;
     }
-    state
+    let mut k: usize = 0;
+    while k < 8 {
+        if session::get(s, Field::LinkSource, l + k) == e {
+            return l + k;
+        }
+        k += 1;
+    }
+    l + 8
 }
 
-// Link l once the event has fired. Internal: callers have shown the length and the link.
-fn ready_link(s: &mut [u64], e: u64, l: usize)
+// Gives link l the state v if it is open and from event e. Internal, as `past_others` is.
+fn set_open_link(s: &mut [u64], e: u64, v: u64, l: usize)
     requires { ⌜ (words ≤ length (now s)) × (l < 2049) ⌝ }
     ensures { λ r. ⌜
-        Wrote (now (s .entry)) (now (s .exit)) (put (read (now (s .entry))) LinkState l (linkAfter (read (now (s .entry))) e l))
+        Wrote (now (s .entry)) (now (s .exit)) (put (read (now (s .entry))) LinkState l (linkSet (read (now (s .entry))) e v l))
         ⌝ }
 {
-    let state = session::get(s, Field::LinkState, l);
-    let source = session::get(s, Field::LinkSource, l);
-    session::set(s, Field::LinkState, l, state_after(state, source, e));
+    if session::get(s, Field::LinkSource, l) == e {
+        if session::get(s, Field::LinkState, l) == session::names::LINK_OPEN {
+            session::set(s, Field::LinkState, l, v);
+        }
+    }
 }
 
-// Makes the open links of an event ready. Internal: callers have shown the length and the count of links.
-fn ready_links(s: &mut [u64], e: u64)
-    requires { ⌜ (words ≤ length (now s)) × (read (now s) Links 0 ≤ 2048) ⌝ }
-    ensures { λ r. ⌜ Wrote (now (s .entry)) (now (s .exit)) (linksAfter (read (now (s .entry))) e) ⌝ }
+// Gives the open links of event e the state v. Most links are from others: they are passed eight at a time, and no store is
+// made. Internal: callers have shown the length, the count of links, and that no link stands past the count.
+pub fn set_open_links(s: &mut [u64], e: u64, v: u64)
+    requires { ⌜ (words ≤ length (now s)) × (read (now s) Links 0 ≤ 2048) × NoMoreLinks (read (now s)) ⌝ }
+    ensures { λ r. ⌜ Wrote (now (s .entry)) (now (s .exit)) (openLinksSet (read (now (s .entry))) e v) ⌝ }
 {
     let n = session::get(s, Field::Links, 0) as usize;
     let mut l: usize = 0;
     while l <= n {
-        ready_link(s, e, l);
-        l += 1;
+        let m = past_others(s, e, l);
+        if m == l {
+            set_open_link(s, e, v, l);
+            l += 1;
+        } else {
+            l = m;
+        }
     }
 }
 
@@ -54,5 +70,5 @@ pub fn fire_one(s: &mut [u64], e: u64, p: u64)
     let at = e as usize;
     session::set(s, Field::EventState, at, session::names::FIRED);
     session::set(s, Field::EventPayload, at, p);
-    ready_links(s, e);
+    set_open_links(s, e, session::names::READY);
 }

@@ -1,5 +1,5 @@
 -- The finish events that fire: marked first, then their states and the states of their links.
-use Prim.Native.Nat.{ℕ, zero, suc, _+_, _-_, _≤_, _<_}
+use Prim.Native.Nat.{ℕ, suc, _+_, _-_, _≤_, _<_}
 use mathlib.Core.Path.{_≡_, sym, ap, _∙_}
 use mathlib.Core.List.{List}
 use native.Mathlib.Omega.{arith}
@@ -178,7 +178,7 @@ tidy-fired s m t = record { frame = t .frame; no-more = t .no-more; open-empty =
 abbrev pub waits : Session → ℕ → Formula
 waits s e = isKind s event e and s EventType e ≐ output and s EventState e ≐ eventOpen and s TaskFinish (e - 1) ≐ 1 and s TaskState (e - 1) ≐ ended
 
-waits-of : (s : Session) (e : ℕ) → holds (finishes s e) → holds (waits s e)
+pub waits-of : (s : Session) (e : ℕ) → holds (finishes s e) → holds (waits s e)
 waits-of s e x = (x .0, (x .1 .0, (x .1 .1 .0, (x .1 .1 .1 .0, x .1 .1 .1 .1 .0))))
 
 pub finishes-waits : (s : Session) (e : ℕ) → (holds (busy s (e - 1)) → ⊥) → test (waits s e) ≡ test (finishes s e)
@@ -188,12 +188,12 @@ finishes-waits s e idle = go (decide (waits s e))
     go (it-does x) = passes (waits s e) x ∙ sym (passes (finishes s e) (x .0, (x .1 .0, (x .1 .1 .0, (x .1 .1 .1 .0, (x .1 .1 .1 .1, idle))))))
     go (it-does-not n) = fails (waits s e) n ∙ sym (fails (finishes s e) (λ x. n (waits-of s e x)))
 
-unfoldable pub someWaits : Session → Formula
-someWaits s = some (s Objects 0 + 1) (λ e. 1 ≼ e and waits s e)
-
 -- where nothing finishes nothing fires
-fires-nothing : (s : Session) → ((e : ℕ) → holds (finishes s e) → ⊥) → fireFinished s ≡ s
-unfolding fireFinished fire change
+unfoldable pub NoneFinish : Session → Type 0
+NoneFinish s = (e : ℕ) → holds (finishes s e) → ⊥
+
+pub fires-nothing : (s : Session) → NoneFinish s → fireFinished s ≡ s
+unfolding NoneFinish fireFinished fire change
 fires-nothing s n =
     change-idle (change (change s EventState states) EventPayload payloads) LinkState links (λ l. choose-no ((s LinkState l ≐ linkOpen) and finishes s (s LinkSource l)) ready (s LinkState l) (λ x. n (s LinkSource l) (x .1)))
     ∙ change-idle (change s EventState states) EventPayload payloads (λ e. choose-no (finishes s e) 0 (s EventPayload e) (n e))
@@ -208,24 +208,12 @@ fires-nothing s n =
     links : ℕ → ℕ
     links l = choose ((s LinkState l ≐ linkOpen) and finishes s (s LinkSource l)) ready (s LinkState l)
 
-pub none-waits : (s : Session) → Tidy s → (holds (someWaits s) → ⊥) → fireFinished s ≡ s
-unfolding someWaits
-none-waits s t n = fires-nothing s (λ e x. n (e, low e (x .0) (decLt (s Objects 0) e), (some-handle e (x .0), waits-of s e x)))
-  where
-    low : (e : ℕ) → s Kind e ≡ event → Dec (s Objects 0 < e) → e < s Objects 0 + 1
-    low e k (yes l) = let z = t .frame .unmade e l in absurd (omega arith)
-    low e k (no m) = omega arith
-
-    some-handle : (e : ℕ) → s Kind e ≡ event → 1 ≤ e
-    some-handle zero k = let z = t .frame .null in absurd (omega arith)
-    some-handle (suc e) k = omega arith
-
 -- some handle is marked
 unfoldable pub someMarked : List ℕ → Formula
 someMarked m = some 513 (λ e. getD m e 0 ≐ 1)
 
 pub none-marked : (s : Session) (m : List ℕ) → Tidy s → length m ≡ 513 → Shows m (finishes s) → (holds (someMarked m) → ⊥) → fireFinished s ≡ s
-unfolding someMarked
+unfolding someMarked NoneFinish
 none-marked s m t len x n = fires-nothing s (λ e f. n (e, low e (f .0) (decLt (s Objects 0) e), finishes-marked s m t len x e f))
   where
     low : (e : ℕ) → s Kind e ≡ event → Dec (s Objects 0 < e) → e < 513

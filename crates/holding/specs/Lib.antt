@@ -5,3 +5,4 @@ pub mod Cutting
 pub mod Tidy
 pub mod Finish
 pub mod Parts
+pub mod Climb

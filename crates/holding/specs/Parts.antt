@@ -13,11 +13,11 @@ use Rattle.rules.specs.Sound.{sound, soundUsed, outputs, taskPart}
 use Rattle.rules.specs.Effects.{letGo, buryDoomed, release, fireOne, fireFinished, destroyEvent, destroyTask, destroyBlock, destroy, end}
 use Rattle.holding.specs.Tidy.{sounds, Tidy, tidy-state, tidy-letGo, tidy-fireOne, tidy-destroyEvent}
 
--- a choice of two tidy sessions
-tidy-choice : (f : Formula) (a b : Session) → Tidy a → Tidy b → Tidy (choose f a b)
-tidy-choice f a b x y = go (decide f)
+-- what holds of two sessions holds of a choice of them
+pub either-way : (P : Session → Type 0) (f : Formula) (a b : Session) → P a → P b → P (choose f a b)
+either-way P f a b x y = go (decide f)
   where
-    go : Case f → Tidy (choose f a b)
+    go : Case f → P (choose f a b)
     go (it-does h) = rw (choose-yes f a b h) x
     go (it-does-not n) = rw (choose-no f a b n) y
 
@@ -27,7 +27,7 @@ outputDestroyed s t = choose (s TaskOutput t ≐ 1) (destroyEvent s (t + 1)) s
 
 pub tidy-outputDestroyed : (s : Session) (t : ℕ) → Tidy s → Tidy (outputDestroyed s t)
 unfolding outputDestroyed
-tidy-outputDestroyed s t x = tidy-choice (s TaskOutput t ≐ 1) (destroyEvent s (t + 1)) s (tidy-destroyEvent s x (t + 1)) x
+tidy-outputDestroyed s t x = either-way Tidy (s TaskOutput t ≐ 1) (destroyEvent s (t + 1)) s (tidy-destroyEvent s x (t + 1)) x
 
 pub destroyTask-parts : (s : Session) (t : ℕ) → fireFinished (outputDestroyed (put s TaskState t taskDestroyed) t) ≡ destroyTask s t
 unfolding outputDestroyed destroyTask put
@@ -39,7 +39,7 @@ outputFired s t b = choose (s TaskOutput t ≐ 1 and s TaskFinish t ≐ 0) (fire
 
 pub tidy-outputFired : (s : Session) (t b : ℕ) → Tidy s → Tidy (outputFired s t b)
 unfolding outputFired
-tidy-outputFired s t b x = tidy-choice (s TaskOutput t ≐ 1 and s TaskFinish t ≐ 0) (fireOne s (t + 1) b) s (tidy-fireOne s x (t + 1) b) x
+tidy-outputFired s t b x = either-way Tidy (s TaskOutput t ≐ 1 and s TaskFinish t ≐ 0) (fireOne s (t + 1) b) s (tidy-fireOne s x (t + 1) b) x
 
 abbrev pub ending : Session → ℕ → Session
 ending s t = put (letGo s t (λ k. 0 ≐ 0)) TaskState t ended
@@ -123,7 +123,7 @@ module _ (s : Session) (t h : ℕ) where
   destroys-block n m k = no-task n m ∙ choose-no (s Kind h ≐ event) (destroyEvent s h) (destroyBlock s t h) k
 
 -- an output event follows its task
-outputs-of : (s : Session) → holds (sound s) → holds (outputs s)
+pub outputs-of : (s : Session) → holds (sound s) → holds (outputs s)
 unfolding sound soundUsed
 outputs-of s x = x .0 .1 .1 .1 .1 .0
 

@@ -8,12 +8,12 @@ use native.Mathlib.Omega.{arith}
 use native.Mathlib.Decide.{decLt}
 use Rattle.session.specs.Table.{Session, put, change, read}
 use Rattle.session.specs.declared.Field.the-variants.{Objects, Links, Kind, TaskState, TaskCreator, EventState, EventPayload, BlockState, BlockHeld, LinkSource, LinkState}
-use Rattle.session.specs.Names.{event, granted, running, eventOpen, fired, destroyedUnfired, destroyedFired, linkOpen, ready, cut}
+use Rattle.session.specs.Names.{task, event, granted, running, eventOpen, fired, destroyedUnfired, destroyedFired, linkOpen, ready, cut}
 use Rattle.rules.specs.Formula.{Formula, holds, choose, Formula._≐_, Formula._and_}
 use Rattle.rules.specs.FormulaLaws.{Case, decide, choose-yes, choose-no, Case.it-does, Case.it-does-not}
 use Rattle.rules.specs.Reading.{isHeld}
 use Rattle.rules.specs.Effects.{letGo, buryDoomed, fire, fireOne, destroyEvent}
-use Rattle.rules.specs.Sound.{sound, soundUsed, counts, objects, roots, creators, links, isLink, slots, slot, states, blocks, unused, eventPart, blockPart}
+use Rattle.rules.specs.Sound.{sound, soundUsed, counts, objects, roots, creators, creator, links, isLink, slots, slot, states, blocks, unused, taskPart, eventPart, blockPart}
 use Rattle.laws.specs.Places.{Places, places, put-here, put-there, Places.one, Places.two}
 use Rattle.ancestors.specs.Above.{creators-fall}
 use Rattle.effects.specs.Firing.{NoMoreLinks}
@@ -25,6 +25,7 @@ pub record Frame (objects links : ℕ) (kind creator source : ℕ → ℕ) : Typ
   pub few : objects ≤ 512
   pub few-links : links ≤ 2048
   pub falls : (h : ℕ) → h ≤ objects → 1 ≤ creator h → creator h < h
+  pub makers : (h : ℕ) → h ≤ objects → 1 ≤ creator h → kind (creator h) ≡ task
   pub null : kind 0 ≡ 0
   pub unmade : (h : ℕ) → objects < h → kind h ≡ 0
   pub sources : (l : ℕ) → l ≤ links → source l ≤ 512
@@ -81,6 +82,18 @@ module _ (ws : List ℕ) (good : holds (sound (read ws))) where
       go (inl e) = let z : s LinkSource l ≡ 0 = rw e (r .unused .0 .0) in omega arith
       go (inr x) = let m = x .0 .1 in let c = r .counts .1 .0 in omega arith
 
+  -- a creator is a task
+  maker : (h : ℕ) → h ≤ s Objects 0 → 1 ≤ s TaskCreator h → s Kind (s TaskCreator h) ≡ task
+  maker h l m = go (r .objects .1 h (omega arith) .1 .1 .0)
+    where
+      higher : holds (creator s h) → s Kind (s TaskCreator h) ≡ task
+      higher (inl e) = let z : s TaskCreator h ≡ 0 = rw e (r .roots .1 .1 .1 .0) in absurd (omega arith)
+      higher (inr x) = x .1 .1 .0
+
+      go : holds (taskPart s h) → s Kind (s TaskCreator h) ≡ task
+      go (inl x) = higher (r .creators h (omega arith) (x .0))
+      go (inr x) = let z : s TaskCreator h ≡ 0 = x .1 .1 .0 in absurd (omega arith)
+
   open-empty : OpenEmpty s
   open-empty e k o = go (decLt (s Objects 0) e)
     where
@@ -104,6 +117,7 @@ module _ (ws : List ℕ) (good : holds (sound (read ws))) where
           few = r .counts .1 .0;
           few-links = r .counts .1 .1;
           falls = creators-fall s (r .objects) (r .roots) (r .creators);
+          makers = maker;
           null = r .objects .0;
           unmade = unmade;
           sources = source-made;

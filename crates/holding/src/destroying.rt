@@ -2,43 +2,26 @@
 use session::Field;
 use session::names;
 ghost use mathlib.Core.Path.{_≡_};
-ghost use Prim.Native.Nat.{_+_, _≤_, _<_};
+ghost use Prim.Native.Nat.{_+_, _≤_};
 ghost use lib.ListN.{length};
-ghost use Rattle.session.specs.Table.{Wrote, read, put, words};
-ghost use Rattle.session.specs.declared.Field.the-variants.{Objects, Links, LinkState};
+ghost use Rattle.session.specs.Table.{Wrote, read, words};
+ghost use Rattle.session.specs.declared.Field.the-variants.{Objects, Links};
+ghost use Rattle.rules.specs.Formula.{holds};
+ghost use Rattle.rules.specs.Reading.{made};
+ghost use Rattle.rules.specs.Sound.{outputs};
 ghost use Rattle.rules.specs.Effects.{destroyEvent, destroyTask, destroyBlock, destroy};
 ghost use Rattle.effects.specs.Firing.{NoMoreLinks};
-ghost use Rattle.holding.specs.Rows.{row};
-ghost use Rattle.holding.specs.Cutting.{retired, cutRow, linksCut};
+ghost use Rattle.holding.specs.Cutting.{retired, linksCut};
 ghost use Rattle.holding.specs.Letting.{Doomed, Active};
 ghost use Rattle.holding.specs.Tidy.{Tidy};
 ghost use Rattle.holding.specs.Parts.{outputDestroyed, OutputLow, fate};
-
-// Link l is cut if it is open and from event e. Internal: callers have shown the length and the link.
-fn cut_link(s: &mut [u64], e: u64, l: u64)
-    requires { ⌜ (words ≤ length (now s)) × (l < 2049) ⌝ }
-    ensures { λ r. ⌜
-        Wrote (now (s .entry)) (now (s .exit)) (put (read (now (s .entry))) LinkState l (cutRow e l (row (read (now (s .entry))) l)))
-        ⌝ }
-{
-    if session::get(s, Field::LinkSource, l as usize) == e {
-        if session::get(s, Field::LinkState, l as usize) == names::LINK_OPEN {
-            session::set(s, Field::LinkState, l as usize, names::CUT);
-        }
-    }
-}
 
 // The open links of event e are cut; ready ones still deliver. Internal: callers have shown the length and the links' count.
 fn cut_links(s: &mut [u64], e: u64)
     requires { ⌜ (words ≤ length (now s)) × (read (now s) Links 0 ≤ 2048) × NoMoreLinks (read (now s)) ⌝ }
     ensures { λ r. ⌜ Wrote (now (s .entry)) (now (s .exit)) (linksCut (read (now (s .entry))) e) ⌝ }
 {
-    let n = session::get(s, Field::Links, 0);
-    let mut l: u64 = 0;
-    while l <= n {
-        cut_link(s, e, l);
-        l += 1;
-    }
+    effects::firing::set_open_links(s, e, names::CUT);
 }
 
 // The state of an event once it is destroyed: with the mark whether it had fired.
@@ -71,14 +54,16 @@ fn destroy_output(s: &mut [u64], t: u64)
     }
 }
 
-// Destroys task t, and fires the finish events that waited for it. Internal, as `destroy_output` is.
+// Destroys task t, and fires the finish events that waited for it. Internal: callers have shown the length, the handles, a
+// tidy session and the rule of outputs.
 pub fn destroy_task(s: &mut [u64], t: u64)
-    requires { ⌜ (words ≤ length (now s)) × (t ≤ 512) × Tidy (read (now s)) × OutputLow (read (now s)) t ⌝ }
+    requires { ⌜ (words ≤ length (now s)) × (t ≤ 512) × Tidy (read (now s)) × OutputLow (read (now s)) t
+        × holds (made (read (now s)) t) × holds (outputs (read (now s))) ⌝ }
     ensures { λ r. ⌜ Wrote (now (s .entry)) (now (s .exit)) (destroyTask (read (now (s .entry))) t) ⌝ }
 {
     session::set(s, Field::TaskState, t as usize, names::TASK_DESTROYED);
     destroy_output(s, t);
-    crate::finishing::fire_finished(s);
+    crate::finishing::fire_finished(s, t);
 }
 
 // The state of block b once it is destroyed: doomed while somebody holds it. Internal, as `is_held` is.
@@ -102,10 +87,11 @@ pub fn destroy_block(s: &mut [u64], t: u64, b: u64)
     session::set(s, Field::BlockState, b as usize, state);
 }
 
-// Destroys object h for task t, by its kind. Internal: callers have shown the length, the handles, a tidy session, and what
-// `let_go_block` asks.
+// Destroys object h for task t, by its kind. Internal: callers have shown the length, the handles, a tidy session, what
+// `let_go_block` asks, and the rule of outputs.
 pub fn destroy_object(s: &mut [u64], t: u64, h: u64)
-    requires { ⌜ (words ≤ length (now s)) × Tidy (read (now s)) × Doomed (read (now s)) × (t ≤ 512) × (1 ≤ h) × (h ≤ 512) × OutputLow (read (now s)) h × Active (read (now s)) ⌝ }
+    requires { ⌜ (words ≤ length (now s)) × Tidy (read (now s)) × Doomed (read (now s)) × (t ≤ 512) × (1 ≤ h) × (h ≤ 512) × OutputLow (read (now s)) h × Active (read (now s))
+        × holds (made (read (now s)) h) × holds (outputs (read (now s))) ⌝ }
     ensures { λ r. ⌜ Wrote (now (s .entry)) (now (s .exit)) (destroy (read (now (s .entry))) t h) ⌝ }
 {
     let kind = session::get(s, Field::Kind, h as usize);

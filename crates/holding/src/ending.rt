@@ -5,6 +5,9 @@ ghost use mathlib.Core.Path.{_≡_};
 ghost use Prim.Native.Nat.{_+_, _≤_, _<_};
 ghost use lib.ListN.{length};
 ghost use Rattle.session.specs.Table.{Wrote, read, words};
+ghost use Rattle.rules.specs.Formula.{holds};
+ghost use Rattle.rules.specs.Reading.{made};
+ghost use Rattle.rules.specs.Sound.{outputs};
 ghost use Rattle.rules.specs.Effects.{end};
 ghost use Rattle.holding.specs.Letting.{Unheld, Unmarked, Active};
 ghost use Rattle.holding.specs.Tidy.{Tidy};
@@ -23,14 +26,15 @@ fn fire_output(s: &mut [u64], t: u64, b: u64)
     }
 }
 
-// Ends task t with block b, or 0. Internal: callers have shown the length, the handles, a tidy session, and what `let_go_all`
-// asks.
+// Ends task t with block b, or 0. Internal: callers have shown the length, the handles, a tidy session, what `let_go_all` asks,
+// and the rule of outputs.
 pub fn end_task(s: &mut [u64], t: u64, b: u64)
-    requires { ⌜ (words ≤ length (now s)) × (t ≤ 512) × Tidy (read (now s)) × OutputLow (read (now s)) t × Unheld (read (now s)) × Unmarked (read (now s)) × Active (read (now s)) ⌝ }
+    requires { ⌜ (words ≤ length (now s)) × (t ≤ 512) × Tidy (read (now s)) × OutputLow (read (now s)) t × Unheld (read (now s)) × Unmarked (read (now s)) × Active (read (now s))
+        × holds (made (read (now s)) t) × holds (outputs (read (now s))) ⌝ }
     ensures { λ r. ⌜ Wrote (now (s .entry)) (now (s .exit)) (end (read (now (s .entry))) t b) ⌝ }
 {
     crate::letting::let_go_all(s, t);
     session::set(s, Field::TaskState, t as usize, names::ENDED);
     fire_output(s, t, b);
-    crate::finishing::fire_finished(s);
+    crate::finishing::fire_finished(s, t);
 }

@@ -2,6 +2,7 @@
 use session::Field;
 use session::names;
 ghost use mathlib.Core.Path.{_≡_};
+ghost use mathlib.Core.Bool.{false};
 ghost use Prim.Native.Nat.{_+_, _-_, _≤_, _<_};
 ghost use lib.ListN.{length, getD};
 ghost use Rattle.session.specs.Table.{Wrote, read, put, words};
@@ -13,7 +14,8 @@ ghost use Rattle.ancestors.specs.Above.{Shows};
 ghost use Rattle.effects.specs.Firing.{NoMoreLinks};
 ghost use Rattle.holding.specs.Rows.{row};
 ghost use Rattle.holding.specs.Tidy.{Tidy};
-ghost use Rattle.holding.specs.Finish.{waits, someWaits, finishing, fireRow, statesFired, readyRow, linksReady, Within, someMarked};
+ghost use Rattle.holding.specs.Finish.{waits, NoneFinish, finishing, fireRow, statesFired, readyRow, linksReady, Within, someMarked};
+ghost use Rattle.holding.specs.Climb.{OnlyAbove, doneCreator};
 
 // Whether e is an open output event of an ended finish task. Internal: callers have shown the length and the handle.
 fn is_waiting(s: &[u64], e: u64) -> bool
@@ -37,22 +39,6 @@ fn is_waiting(s: &[u64], e: u64) -> bool
         return false;
     }
     true
-}
-
-// Whether some output event waits for descendants to end: where none does nothing can fire. Internal, as `is_waiting` is.
-fn any_waiting(s: &[u64]) -> bool
-    requires { ⌜ (words ≤ length (now s)) × (read (now s) Objects 0 ≤ 512) ⌝ }
-    ensures { λ r. ⌜ r ≡ test (someWaits (read (now (s .entry)))) ⌝ }
-{
-    let n = session::get(s, Field::Objects, 0);
-    let mut e: u64 = 1;
-    while e <= n {
-        if is_waiting(s, e) {
-            return true;
-        }
-        e += 1;
-    }
-    false
 }
 
 // Whether e waits and its task has no live descendant, which the mark tells. Internal: callers have shown the length, the
@@ -192,12 +178,52 @@ fn fire_waiting(s: &mut [u64])
     }
 }
 
-// Fires every output event that finishes. Internal, as `fire_waiting` is.
-pub fn fire_finished(s: &mut [u64])
-    requires { ⌜ (words ≤ length (now s)) × Tidy (read (now s)) ⌝ }
+// Whether the output event of task h waits. The last handle is followed by none. Internal: callers have shown the length, a
+// tidy session and the handle.
+fn task_waits(s: &[u64], h: u64) -> bool
+    requires { ⌜ (words ≤ length (now s)) × Tidy (read (now s)) × (h ≤ read (now s) Objects 0) ⌝ }
+    ensures { λ r. ⌜ r ≡ test (waits (read (now (s .entry))) (h + 1)) ⌝ }
+{
+    if names::MOST_OBJECTS <= h {
+        return false;
+    }
+    is_waiting(s, h + 1)
+}
+
+// The creator of task h, or 0 if it is live: no task above a live one can be done. Internal, as `task_waits` is.
+fn done_creator(s: &[u64], h: u64) -> u64
+    requires { ⌜ (words ≤ length (now s)) × Tidy (read (now s)) × (h ≤ read (now s) Objects 0) ⌝ }
+    ensures { λ r. ⌜ r ≡ doneCreator (read (now (s .entry))) h ⌝ }
+{
+    let c = session::get(s, Field::TaskCreator, h as usize);
+    if session::get(s, Field::TaskState, c as usize) <= names::RUNNING {
+        return 0;
+    }
+    c
+}
+
+// Whether some output event may finish: only those of t and of the tasks above it are looked at, as far as none is live.
+// Internal: callers have shown the length, a tidy session, and that no other can.
+fn may_finish(s: &[u64], t: u64) -> bool
+    requires { ⌜ (words ≤ length (now s)) × Tidy (read (now s)) × OnlyAbove (read (now s)) t ⌝ }
+    ensures { λ r. ⌜ (r ≡ false → NoneFinish (read (now (s .entry)))) ⌝ }
+{
+    let mut h = t;
+    while h != 0 {
+        if task_waits(s, h) {
+            return true;
+        }
+        h = done_creator(s, h);
+    }
+    false
+}
+
+// Fires every output event that finishes, once task t has ended or was destroyed. Internal, as `may_finish` is.
+pub fn fire_finished(s: &mut [u64], t: u64)
+    requires { ⌜ (words ≤ length (now s)) × Tidy (read (now s)) × OnlyAbove (read (now s)) t ⌝ }
     ensures { λ r. ⌜ Wrote (now (s .entry)) (now (s .exit)) (fireFinished (read (now (s .entry)))) ⌝ }
 {
-    if any_waiting(s) {
+    if may_finish(s, t) {
         fire_waiting(s);
     }
 }

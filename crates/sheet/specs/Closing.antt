@@ -1,7 +1,7 @@
 -- The last line, and its counts.
 use Prim.Native.Nat.{ℕ, zero, suc, _+_, _-_, _≤_, _<_, _^_}
 use mathlib.Core.List.{List}
-use mathlib.Core.Path.{_≡_, refl, ap, sym, _∙_}
+use mathlib.Core.Path.{_≡_, ap, sym, _∙_}
 use mathlib.Core.Logic.{⊎-elim}
 use native.Mathlib.Omega.{arith}
 use lib.ListN.{length}
@@ -9,7 +9,7 @@ use borrow.Author.Tests.{le-ltb}
 use Rattle.number.specs.Number.{splice}
 use Rattle.lines.specs.Line.{line}
 use Rattle.lines.specs.LineLaws.{digits-bound, line-length}
-use Rattle.session.specs.Table.{Session, read, words, size}
+use Rattle.session.specs.Table.{read, words, size}
 use Rattle.session.specs.declared.Field.{Field}
 use Rattle.session.specs.declared.Field.the-variants.{Objects, Links, Kind, LinkState}
 use Rattle.rules.specs.Formula.{Formula, holds, choose, count, Formula._≼_, Formula._and_}
@@ -19,15 +19,20 @@ use Rattle.laws.specs.Counting.{count-no}
 use Rattle.sheet.specs.Run.{Lines, hasRoom, lastLine}
 use Rattle.sheet.specs.Going.{linesOf}
 
--- The lines with the last one, unless check 1 fails.
+-- The lines with the last one behind them.
+abbrev pub withLast : List ℕ → Lines → Lines
+withLast memory l = record { bytes = splice (l .bytes) (l .used) (lastLine (read memory)); used = l .used + length (lastLine (read memory)) }
+
+-- So they are left, unless check 1 fails.
 abbrev pub closes : List ℕ → Lines → Formula
 closes memory l = words ≼ length memory and hasRoom l
 
 unfoldable pub closed : List ℕ → Lines → Lines
-closed memory l =
-    choose (closes memory l)
-    (record { bytes = splice (l .bytes) (l .used) (lastLine (read memory)); used = l .used + length (lastLine (read memory)) })
-    l
+closed memory l = choose (closes memory l) (withLast memory l) l
+
+pub closed-room : (memory : List ℕ) (l : Lines) → holds (closes memory l) → closed memory l ≡ withLast memory l
+unfolding closed
+closed-room memory l h = choose-yes (closes memory l) (withLast memory l) l h
 
 pub closed-not : (memory : List ℕ) (l : Lines) → (holds (closes memory l) → ⊥) → l ≡ closed memory l
 unfolding closed
@@ -36,8 +41,8 @@ closed-not memory l f = sym (choose-no (closes memory l) _ l f)
 module _ (memory lines : List ℕ) (used : ℕ) (long : words ≤ length memory) (room : holds (hasRoom (linesOf lines used))) where
   pub closed-by : (a b : ℕ) → a ≡ liveTasks (read memory) → b ≡ undeliveredLinks (read memory) → (c : ℕ) → c ≡ droppedCount (read memory)
       → linesOf (splice lines used (line a b c)) (used + length (line a b c)) ≡ closed memory (linesOf lines used)
-  unfolding closed lastLine
-  closed-by a b p q c r = cc (p, q, r) ∙ sym (choose-yes (closes memory (linesOf lines used)) _ (linesOf lines used) (long, room))
+  unfolding lastLine
+  closed-by a b p q c r = cc (p, q, r) ∙ sym (closed-room memory (linesOf lines used) (long, room))
 
 pub line-closing : (a b c : ℕ) → a ≤ 513 → b ≤ 2049 → c < 2 ^ 64 → length (line a b c) ≤ 32
 line-closing a b c ha hb hc =

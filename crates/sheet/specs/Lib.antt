@@ -4,4 +4,6 @@ pub mod Replies
 pub mod Going
 pub mod Whole
 pub mod Closing
+pub mod Settled
+pub mod NeverFull
 pub mod SheetDemand

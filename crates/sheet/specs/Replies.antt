@@ -1,19 +1,19 @@
 -- The numbers of a reply are small, so that its line takes less than the 32 bytes that check 1 asks for.
 use Prim.Native.Nat.{ℕ, zero, suc, _+_, _≤_, _<_}
 use mathlib.Core.List.{List, [], _∷_}
-use mathlib.Core.Path.{_≡_, refl, ap, sym, _∙_}
+use mathlib.Core.Path.{ap}
 use mathlib.Core.Bool.{Bool, true, false}
 use native.Mathlib.Omega.{arith}
 use lib.Dec.{T, leb, leb→le}
 use lib.ListN.{getD}
 use Rattle.session.specs.Table.{Session, both}
-use Rattle.session.specs.declared.Field.the-variants.{Objects, Links}
+use Rattle.session.specs.declared.Field.the-variants.{Links}
 use Rattle.rules.specs.declared.Operation.{Operation}
-use Rattle.rules.specs.Formula.{holds, choose, Formula._≼_}
+use Rattle.rules.specs.Formula.{holds, choose}
 use Rattle.rules.specs.FormulaLaws.{Case, decide, choose-yes, choose-no, Case.it-does, Case.it-does-not}
 use Rattle.rules.specs.Checks.{Check, refusal, makesLink}
 use Rattle.rules.specs.Sound.{sound}
-use Rattle.rules.specs.Step.{arg, Rule, Reply, rules, ruleOf, answer, outcome, step}
+use Rattle.rules.specs.Step.{arg, Rule, Reply, rules, answer, outcome, step}
 use Rattle.record.specs.Refusals.{UpTo, refusal-most}
 use Rattle.laws.specs.Cases.{Accepted, Called, called, step-sound, Called.refused, Called.accepted, Accepted.by-template, Accepted.by-task, Accepted.by-event, Accepted.by-block, Accepted.by-dependence, Accepted.by-satisfaction, Accepted.by-release, Accepted.by-destroy, Accepted.by-delivery, Accepted.by-grant, Accepted.by-start, Accepted.by-end}
 

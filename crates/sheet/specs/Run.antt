@@ -9,8 +9,7 @@ use Rattle.session.specs.Table.{Session}
 use Rattle.rules.specs.Formula.{Formula, choose, not, Formula._≐_, Formula._≼_}
 use Rattle.rules.specs.Reading.{liveTasks, undeliveredLinks, droppedCount}
 use Rattle.rules.specs.Sound.{sound}
-use Rattle.rules.specs.Step.{Reply, step}
-use Rattle.record.specs.declared.Record.{Record}
+use Rattle.rules.specs.Step.{step}
 use Rattle.record.specs.Reading.{recordAt}
 use Rattle.record.specs.Sheet.{headRefusal, firstRecord}
 

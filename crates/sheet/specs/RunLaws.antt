@@ -5,14 +5,14 @@ use mathlib.Core.Path.{_≡_, refl, sym, _∙_}
 use native.Mathlib.Omega.{arith}
 use lib.ListN.{length}
 use Rattle.session.specs.Table.{Session}
-use Rattle.rules.specs.Formula.{holds, not, choose, Formula._≐_, Formula._≼_}
+use Rattle.rules.specs.Formula.{holds, not, Formula._≐_, Formula._≼_}
 use Rattle.rules.specs.FormulaLaws.{Case, decide, choose-yes, choose-no, Case.it-does, Case.it-does-not}
 use Rattle.rules.specs.Sound.{sound}
 use Rattle.rules.specs.Step.{step}
 use Rattle.record.specs.Reading.{recordAt}
 use Rattle.record.specs.Laws.{record-forward}
 use Rattle.record.specs.Sheet.{headRefusal, firstRecord}
-use Rattle.sheet.specs.Run.{Lines, hasRoom, withLine, Run, ended, endedBy, runFrom, runSheet}
+use Rattle.sheet.specs.Run.{Lines, hasRoom, withLine, ended, endedBy, runFrom, runSheet}
 
 module _ (sheet : List ℕ) (at k : ℕ) (s : Session) (l : Lines) where
   -- the sheet's end

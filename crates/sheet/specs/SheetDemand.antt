@@ -6,7 +6,7 @@ use mathlib.Core.Path.{_≡_, refl, ap, sym, _∙_}
 use lib.ListN.{length}
 use Rattle.session.specs.Table.{Session}
 use Rattle.rules.specs.declared.Operation.{Operation}
-use Rattle.rules.specs.Formula.{Formula, holds, choose, not, Formula._≐_, Formula._≼_}
+use Rattle.rules.specs.Formula.{Formula, choose, not, Formula._≐_, Formula._≼_}
 use Rattle.rules.specs.FormulaLaws.{Case, decide, choose-yes, choose-no, Case.it-does, Case.it-does-not}
 use Rattle.rules.specs.Sound.{sound}
 use Rattle.rules.specs.Step.{freshSession, step}
@@ -14,7 +14,7 @@ use Rattle.rules.specs.Demand.{Demand3, next, run, sessionAfter}
 use Rattle.record.specs.Reading.{recordAt}
 use Rattle.record.specs.Sheet.{headRefusal, firstRecord}
 use Rattle.laws.specs.Demand.{demand-3}
-use Rattle.sheet.specs.Run.{Lines, hasRoom, withLine, Run, ended, endedBy, runFrom, runSheet}
+use Rattle.sheet.specs.Run.{Lines, hasRoom, withLine, Run, endedBy, runFrom, runSheet}
 
 -- The operations that a run ran, by the same recursion as `runFrom`.
 unfoldable pub ranFrom : List ℕ → ℕ → ℕ → ℕ → Session → Lines → List Operation

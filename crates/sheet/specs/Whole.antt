@@ -2,7 +2,7 @@
 use Prim.Native.Nat.{ℕ, _≤_, _<_}
 use mathlib.Core.List.{List}
 use mathlib.Core.Path.{_≡_, refl, ap, sym, _∙_}
-use mathlib.Core.Bool.{Bool, true, false}
+use mathlib.Core.Bool.{true, false}
 use native.Mathlib.Omega.{arith}
 use lib.Dec.{leb, lit≤}
 use lib.ListN.{length}
@@ -13,14 +13,13 @@ use Rattle.session.specs.Fresh.{freshSession, Leaves}
 use Rattle.rules.specs.Formula.{holds, Formula._≐_}
 use Rattle.rules.specs.FormulaLaws.{Case, decide, choose-yes, choose-no, Case.it-does, Case.it-does-not}
 use Rattle.rules.specs.Sound.{sound, kept}
-use Rattle.record.specs.declared.Place.{Place}
 use Rattle.record.specs.declared.Place.the-variants.{Behind, Refused}
 use Rattle.record.specs.Reading.{placed, refusedBy, placeOf}
 use Rattle.record.specs.Refusals.{refusal-most}
 use Rattle.record.specs.Sheet.{headRefusal, headChecks, firstRecord, headAt}
 use Rattle.laws.specs.Fresh.{fresh-kept}
 use Rattle.sheet.specs.declared.Ended.{Ended}
-use Rattle.sheet.specs.Run.{Lines, hasRoom, withLine, Run, ended, endedBy, runSheet}
+use Rattle.sheet.specs.Run.{Lines, hasRoom, withLine, ended, endedBy, runSheet}
 use Rattle.sheet.specs.RunLaws.{sheet-full, sheet-unsound, sheet-refused, sheet-runs}
 use Rattle.sheet.specs.Going.{linesOf, Ends, ends-as, runOf}
 

@@ -14,6 +14,7 @@ ghost use Rattle.sheet.specs.Whole.{Ran};
 ghost use Rattle.sheet.specs.Closing.{closed};
 
 mod counts;
+mod settled;
 
 use record::Place;
 use rules::Answer;
@@ -205,7 +206,20 @@ fn run_whole(sheet: &[u8], memory: &mut [u64], lines: &mut [u8], used: usize, su
     }
 }
 
-// Runs a sheet on a session in lent memory, with its lines behind those already in lent memory.
+// Whether lent memory holds a session that every operation keeps: sound, and no satisfied slot has a link still to come.
+// Internal: callers have shown the length.
+fn is_kept(memory: &[u64]) -> bool
+    requires { ⌜ words ≤ length (now memory) ⌝ }
+    ensures { λ r. ⌜ r ≡ test (kept (read (now (memory .entry)))) ⌝ }
+{
+    if !sound::is_sound(memory) {
+        return false;
+    }
+    settled::is_settled(memory)
+}
+
+// Runs a sheet on a session in lent memory, with its lines behind those already in lent memory. A kept
+// session is looked at once; any other at each record.
 pub fn run(sheet: &[u8], memory: &mut [u64], lines: &mut [u8], used: usize) -> Ended
     ensures { λ r. ⌜
         Ran (now (sheet .entry)) (now (memory .entry)) (now (memory .exit)) (now (lines .entry)) (now (lines .exit)) used r (read (now (memory .entry)))
@@ -218,7 +232,8 @@ pub fn run(sheet: &[u8], memory: &mut [u64], lines: &mut [u8], used: usize) -> E
             ending: refusals::NO_ROOM,
         };
     }
-    run_whole(sheet, memory, lines, used, false)
+    let sure = is_kept(memory);
+    run_whole(sheet, memory, lines, used, sure)
 }
 
 // Runs a sheet from a fresh session, which is written into lent memory first. Every session from there on is kept, so that

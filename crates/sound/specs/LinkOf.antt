@@ -2,8 +2,9 @@
 use Prim.Native.Nat.{ℕ, zero, suc, _+_, _≤_, _<_}
 use mathlib.Core.Path.{_≡_, refl, sym, _∙_, subst, ap}
 use mathlib.Core.List.{List}
+use lib.Dec.{eqb, ltb}
 use lib.ListN.{set}
-use mathlib.Core.Bool.{true}
+use mathlib.Core.Bool.{true, false, _&&_, _||_}
 use mathlib.Core.Logic.{inl, inr}
 use native.Mathlib.Omega.{arith}
 use native.Mathlib.Decide.{decLt}
@@ -12,14 +13,14 @@ use Rattle.session.specs.Table.{Session}
 use Rattle.session.specs.declared.Field.the-variants.{Objects, Links, Kind, TaskState, TaskSlots, EventPayload, SlotMode, SlotMark, SlotPayload, LinkSource, LinkTarget, LinkSlot, LinkState}
 use Rattle.session.specs.Names.{task, delivered, held, taskDestroyed}
 use Rattle.rules.specs.Formula.{Formula, holds, test, choose, not, _iff_, Formula._≐_, Formula._≼_, Formula._and_, Formula._or_, Formula._then_, Formula.each, Formula.some}
-use Rattle.rules.specs.FormulaLaws.{passes, Case, decide, choose-yes, choose-no, Case.it-does, Case.it-does-not}
+use Rattle.rules.specs.FormulaLaws.{passes, passed, failed, Case, decide, choose-yes, choose-no, Case.it-does, Case.it-does-not}
 use Rattle.rules.specs.Reading.{at, isKind}
 use Rattle.rules.specs.Sound.{isPayload, objects, links, oneLink, slot, slots, claimed, unclaimed, leadsTo, noLink, noSlot, isLink}
 use Rattle.laws.specs.SlotPlaces.{same-task, same-slot, low-slot}
 use Rattle.laws.specs.Places.{Places, places, Places.one, Places.two}
 use Rattle.sound.specs.Bodies.{linkAt}
 use Rattle.sound.specs.Row.{Row, row-set, row-same}
-use Rattle.sound.specs.Bools.{test-same}
+use Rattle.sound.specs.Bools.{test-both, test-either, test-same}
 
 -- what is known of links before the slots are looked at
 pub record Linked (s : Session) : Type 0 where
@@ -60,6 +61,33 @@ module _ (s : Session) where
   slotBy m h j =
       isKind s task h and suc j ≼ s TaskSlots h and (unclaimedBy m h j or claimedBy m h j)
       or (isKind s task h then s TaskSlots h ≼ j) and noSlot s (at h j)
+
+  -- a slot that there is, and a place where there is none
+  pub slot-there : (m h j : ℕ) → (eqb (s Kind h) task && ltb j (s TaskSlots h)) ≡ true → test (slotBy m h j) ≡ (test (unclaimedBy m h j) || test (claimedBy m h j))
+  unfolding test
+  slot-there m h j e = test-same (slotBy m h j) (unclaimedBy m h j or claimedBy m h j) to (λ y. inl (is .0, (is .1, y))) ∙ test-either (unclaimedBy m h j) (claimedBy m h j)
+    where
+      is : holds (isKind s task h and suc j ≼ s TaskSlots h)
+      is = passed (isKind s task h and suc j ≼ s TaskSlots h) (test-both (isKind s task h) (suc j ≼ s TaskSlots h) ∙ e)
+
+      to : holds (slotBy m h j) → holds (unclaimedBy m h j or claimedBy m h j)
+      to (inl y) = y .1 .1
+      to (inr y) = let z = y .0 (is .0) in let l = is .1 in absurd (omega arith)
+
+  pub slot-nowhere : (m h j : ℕ) → (eqb (s Kind h) task && ltb j (s TaskSlots h)) ≡ false → test (slotBy m h j) ≡ test (noSlot s (at h j))
+  unfolding test
+  slot-nowhere m h j e = test-same (slotBy m h j) (noSlot s (at h j)) to (λ y. inr ((λ k. past k (decLt j (s TaskSlots h))), y))
+    where
+      none : holds (isKind s task h and suc j ≼ s TaskSlots h) → ⊥
+      none = failed (isKind s task h and suc j ≼ s TaskSlots h) (test-both (isKind s task h) (suc j ≼ s TaskSlots h) ∙ e)
+
+      to : holds (slotBy m h j) → holds (noSlot s (at h j))
+      to (inl y) = absurd (none (y .0, y .1 .0))
+      to (inr y) = y .1
+
+      past : s Kind h ≡ task → Dec (j < s TaskSlots h) → s TaskSlots h ≤ j
+      past k (yes l) = absurd (none (k, l))
+      past k (no n) = omega arith
 
   abbrev pub slotAt : ℕ → ℕ → Formula
   slotAt h j = slotBy (lastLink (s Links 0 + 1) (at h j)) h j

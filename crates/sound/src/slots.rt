@@ -133,8 +133,10 @@ fn is_slot_by(s: &[u64], m: u64, h: u64, j: u64) -> bool
 {
     let is_task = of_object(s, Field::Kind, h) == names::TASK;
     let n = of_object(s, Field::TaskSlots, h);
-    let claim = is_unclaimed_by(s, m, h, j) | is_claimed_by(s, m, h, j);
-    is_task & ((j < n) & claim) | (!is_task | (n <= j)) & is_no_slot(s, h * 16 + j)
+    if is_task & (j < n) {
+        return is_unclaimed_by(s, m, h, j) | is_claimed_by(s, m, h, j);
+    }
+    is_no_slot(s, h * 16 + j)
 }
 
 fn is_slot(s: &[u64], row: &[u64; 8208], h: u64, j: u64) -> bool

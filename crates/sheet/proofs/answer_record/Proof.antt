@@ -1,68 +1,51 @@
 -- `sheet::answer_record` meets its contract: the reply's numbers are small, and its line is written.
-use mathlib.Core.Path.{_≡_, refl, ap, sym, _∙_}
-use native.Mathlib.Omega.{arith}
-use Prim.Native.Nat.{ℕ}
+use mathlib.Core.Path.{_∙_}
 use lib.Dec.{lit<}
 use Rattle.session.specs.Table.{read}
-use Rattle.rules.specs.declared.Answer.{Answer}
-use Rattle.rules.specs.declared.Answer.the-variants.{Accepted, Refused}
-use Rattle.rules.specs.Answer.{refusedOf, madeOf}
-use Rattle.rules.specs.Step.{step}
 use Rattle.sheet.specs.Replies.{reply-small}
 use Rattle.sheet.specs.Going.{reply-accepted, reply-refused, line-accepted, line-refused}
 use borrow.Author.Needs.{needs}
 use Rattle.sheet.proofs.answer_record.Statement.{statement}
 use Rattle.sheet.proofs.answer_record.Tie as tie
 
--- src/lib.rt:73:11
 apply-sound-requires : tie.Need-apply-sound-requires
 apply-sound-requires c κs = search needs
 
--- src/lib.rt:74:26
 enum-known-made : tie.Need-enum-known-made
 enum-known-made c = search needs
 
--- src/lib.rt:74:35
 put-answer-requires : tie.Need-put-answer-requires
 put-answer-requires c κs =
     let s = c .before .before .before .before .before .before .before .before .before .before in
     let small = reply-small (read (s .args .memory .now)) (s .args .op) (s .pre .1) in
     (s .pre .2, lit< tt, rw (reply-accepted _ _ (c .before .before .before .before .before .before .apply-sound .ensures .made) (c .before .before .made .given .1)) (small .1))
 
--- src/lib.rt:75:25
 enum-known-refused : tie.Need-enum-known-refused
 enum-known-refused c = search needs
 
--- src/lib.rt:75:37
 put-answer-requires-2 : tie.Need-put-answer-requires-2
 put-answer-requires-2 c κs =
     let s = c .before .before .before .before .before .before .before .before .before .before in
     let small = reply-small (read (s .args .memory .now)) (s .args .op) (s .pre .1) in
     (s .pre .2, rw (reply-refused _ _ (c .before .before .before .before .before .before .apply-sound .ensures .refused) (c .before .before .refused .given .1)) (small .0), lit< tt)
 
--- src/lib.rt:66:1
 same-length : tie.Need-same-length
 same-length c = search needs
 
--- src/lib.rt:66:1
 same-length-2 : tie.Need-same-length-2
 same-length-2 c = search needs
 
--- src/lib.rt:66:1
 returns : tie.Need-returns
 returns c =
     let r = c .before .before .before .before .before .before .before .before .before .apply-sound .ensures in
     (r .leaves, c .before .before .put-answer .ensures ∙ line-accepted _ _ _ _ _ (r .refused) (r .made) (c .before .before .before .before .before .made .given .1))
 
--- src/lib.rt:66:1
 same-length-3 : tie.Need-same-length-3
 same-length-3 c = search needs
 
--- src/lib.rt:66:1
 same-length-4 : tie.Need-same-length-4
 same-length-4 c = search needs
 
--- src/lib.rt:66:1
 returns-2 : tie.Need-returns-2
 returns-2 c =
     let r = c .before .before .before .before .before .before .before .before .before .apply-sound .ensures in

@@ -10,23 +10,19 @@ use borrow.Author.Needs.{needs}
 use Rattle.sheet.proofs.has_room.Statement.{statement}
 use Rattle.sheet.proofs.has_room.Tie as tie
 
--- src/lib.rt:41:9
 returns : tie.Need-returns
 returns c =
     let a = c .before .args in
     sym (fails (hasRoom (linesOf (a .lines .now) (a .used))) (λ (x : a .used + 32 ≤ length (a .lines .now)). omega arith))
 
--- src/lib.rt:43:8
 sub-if2 : tie.Need-sub-if2
 sub-if2 c = search needs
 
--- src/lib.rt:44:9
 returns-2 : tie.Need-returns-2
 returns-2 c =
     let a = c .before .before .args in
     sym (fails (hasRoom (linesOf (a .lines .now) (a .used))) (λ (x : a .used + 32 ≤ length (a .lines .now)). omega arith))
 
--- src/lib.rt:37:1
 returns-3 : tie.Need-returns-3
 returns-3 c =
     let a = c .before .before .args in

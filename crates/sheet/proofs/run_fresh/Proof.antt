@@ -6,21 +6,17 @@ use borrow.Author.Needs.{needs}
 use Rattle.sheet.proofs.run_fresh.Statement.{statement}
 use Rattle.sheet.proofs.run_fresh.Tie as tie
 
--- src/lib.rt:191:9
 write-fresh-requires : tie.Need-write-fresh-requires
 write-fresh-requires c κs = search needs
 
--- src/lib.rt:192:9
 same-length : tie.Need-same-length
 same-length c = search needs
 
--- src/lib.rt:192:9
 returns : tie.Need-returns
 returns c =
     let a = c .before .before .before .before .before .before .before .before .args in
     fresh-short (a .sheet .now) (a .memory .now) _ (a .lines .now) (a .used) (sym (c .before .before .before .write-fresh .ensures .0) ∙ not-true _ (c .if1 .taken)) (c .before .before .before .write-fresh .ensures .1)
 
--- src/lib.rt:194:5
 run-whole-requires : tie.Need-run-whole-requires
 run-whole-requires c κs =
     let a = c .before .before .before .before .before .before .before .before .before .before .args in
@@ -28,15 +24,12 @@ run-whole-requires c κs =
     let w = fresh-written (a .memory .now) _ long (c .before .before .before .before .before .write-fresh .ensures .1) in
     (fresh-length (a .memory .now) _ long w, λ _. fresh-there (a .memory .now) _ w)
 
--- src/lib.rt:186:1
 same-length-2 : tie.Need-same-length-2
 same-length-2 c = search needs
 
--- src/lib.rt:186:1
 same-length-3 : tie.Need-same-length-3
 same-length-3 c = search needs
 
--- src/lib.rt:186:1
 returns-2 : tie.Need-returns-2
 returns-2 c =
     let a = c .before .before .before .before .before .before .before .before .before .before .before .before .before .before .before .args in

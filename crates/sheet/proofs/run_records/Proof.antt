@@ -1,6 +1,6 @@
 -- `sheet::run_records` meets its contract: before each record the run from there is the whole run.
-use Prim.Native.Nat.{ℕ, _+_, _-_, _≤_, _<_}
-use mathlib.Core.Path.{_≡_, refl, ap, sym, _∙_}
+use Prim.Native.Nat.{_-_}
+use mathlib.Core.Path.{_≡_, refl, _∙_}
 use native.Mathlib.Omega.{arith}
 use lib.ListN.{length}
 use Rattle.sheet.specs.Going.{Running, running-first, running-end, running-stop, running-on, onward-of}
@@ -14,68 +14,54 @@ Inv-loop sheet first memory₀ lines₀ used sure at₀ behind₀ k₀ memory li
 abbrev μ-loop : tie.MeasureT-loop
 μ-loop sheet first memory₀ lines₀ used sure at₀ behind₀ k₀ memory lines at behind k = length sheet - at
 
--- src/lib.rt:118:5
 loop-holds : tie.Need-loop-holds Inv-loop μ-loop
 loop-holds c = (running-first _ _ _ _ _ _ (c .before .before .before .pre .1), refl)
 
--- src/lib.rt:119:15
 run-record-requires : tie.Need-run-record-requires Inv-loop μ-loop
 run-record-requires c κs =
     let i = c .before .before .before .loop .inv .0 in
     (omega (arith, i .same-length, c .before .before .before .before .before .before .before .pre .0), i .keeps, c .before .before .loop-test .taken, omega (arith, i .count))
 
--- src/lib.rt:120:22
 enum-known-next : tie.Need-enum-known-next Inv-loop μ-loop
 enum-known-next c = search needs
 
--- src/lib.rt:123:17
 add-k : tie.Need-add-k Inv-loop μ-loop
 add-k c = omega (arith, c .before .before .before .before .before .before .before .before .before .before .before .loop .inv .0 .count)
 
--- src/lib.rt:118:5
 loop-less : tie.Need-loop-less Inv-loop μ-loop
 loop-less c =
     let o = onward-of _ _ _ _ (c .before .before .before .before .before .before .before .run-record .ensures .onward) (c .before .next .given .1) in
     omega (arith, o, c .before .before .before .before .before .before .before .before .before .before .loop-test .taken)
 
--- src/lib.rt:118:5
 loop-again : tie.Need-loop-again Inv-loop μ-loop
 loop-again c =
     let l = c .before .before .before .before .before .before .before .before .before .before .before .loop in
     let o = rw (c .before .next .given .1) at (c .before .before .before .before .before .before .before .run-record .ensures) in
     (running-on _ _ _ _ _ _ _ _ _ _ _ (l .inv .0) (c .before .before .before .before .before .before .before .before .before .before .loop-test .taken) _ _ _ _ o, c .before .before .before .before .before .before .before .run-record .kept .1 .1 .1 .1 .0 ∙ l .inv .1)
 
--- src/lib.rt:125:27
 enum-known-last : tie.Need-enum-known-last Inv-loop μ-loop
 enum-known-last c = search needs
 
--- src/lib.rt:128:29
 add-t21 : tie.Need-add-t21 Inv-loop μ-loop
 add-t21 c = omega (arith, c .before .before .before .before .before .before .before .before .before .before .before .loop .inv .0 .count)
 
--- src/lib.rt:126:17
 same-length : tie.Need-same-length Inv-loop μ-loop
 same-length c = c .before .before .before .before .before .before .before .run-record .ensures .same-length ∙ c .before .before .before .before .before .before .before .before .before .before .before .loop .inv .0 .same-length
 
--- src/lib.rt:126:17
 same-length-2 : tie.Need-same-length-2 Inv-loop μ-loop
 same-length-2 c = c .before .before .before .before .before .before .before .run-record .kept .1 .1 .1 .1 .0 ∙ c .before .before .before .before .before .before .before .before .before .before .before .loop .inv .1
 
--- src/lib.rt:126:17
 returns : tie.Need-returns Inv-loop μ-loop
 returns c =
     let o = rw (c .before .last .given .1) at (c .before .before .before .before .before .before .before .run-record .ensures) in
     running-stop _ _ _ _ _ _ _ _ _ _ _ (c .before .before .before .before .before .before .before .before .before .before .before .loop .inv .0) (c .before .before .before .before .before .before .before .before .before .before .loop-test .taken) _ _ _ _ o
 
--- src/lib.rt:109:1
 same-length-3 : tie.Need-same-length-3 Inv-loop μ-loop
 same-length-3 c = c .before .loop .inv .0 .same-length
 
--- src/lib.rt:109:1
 same-length-4 : tie.Need-same-length-4 Inv-loop μ-loop
 same-length-4 c = c .before .loop .inv .1
 
--- src/lib.rt:109:1
 returns-2 : tie.Need-returns-2 Inv-loop μ-loop
 returns-2 c = running-end _ _ _ _ _ _ _ _ _ _ _ (c .before .loop .inv .0) (omega arith)
 

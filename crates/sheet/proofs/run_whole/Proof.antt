@@ -13,39 +13,31 @@ use borrow.Author.Needs.{needs}
 use Rattle.sheet.proofs.run_whole.Statement.{statement}
 use Rattle.sheet.proofs.run_whole.Tie as tie
 
--- src/lib.rt:148:9
 has-room-requires : tie.Need-has-room-requires
 has-room-requires c κs = search needs
 
--- src/lib.rt:149:9
 same-length : tie.Need-same-length
 same-length c = search needs
 
--- src/lib.rt:149:9
 returns : tie.Need-returns
 returns c =
     let a = c .before .before .before .before .before .before .args in
     ends-full (a .sheet .now) (a .memory .now) (a .lines .now) (a .used) (failed (hasRoom (linesOf (a .lines .now) (a .used))) (sym (c .before .has-room .ensures) ∙ not-true _ (c .if1 .taken)))
 
--- src/lib.rt:151:9
 is-admitted-requires : tie.Need-is-admitted-requires
 is-admitted-requires c κs = search needs
 
--- src/lib.rt:152:13
 put-answer-requires : tie.Need-put-answer-requires
 put-answer-requires c κs =
     let a = c .before .before .before .before .before .before .before .before .before .before .args in
     ((passed (hasRoom (linesOf (a .lines .now) (a .used))) (sym (c .before .before .before .before .before .has-room .ensures) ∙ not-false _ (c .before .before .before .before .if1 .left))), lit< tt, lit< tt)
 
--- src/lib.rt:153:9
 same-length-2 : tie.Need-same-length-2
 same-length-2 c = search needs
 
--- src/lib.rt:153:9
 same-length-3 : tie.Need-same-length-3
 same-length-3 c = search needs
 
--- src/lib.rt:153:9
 returns-2 : tie.Need-returns-2
 returns-2 c =
     let a = c .before .before .before .before .before .before .before .before .before .before .before .before .before .args in
@@ -53,38 +45,30 @@ returns-2 c =
     (passed (hasRoom (linesOf (a .lines .now) (a .used))) (sym (c .before .before .before .before .before .before .before .before .has-room .ensures) ∙ not-false _ (c .before .before .before .before .before .before .before .if1 .left)))
     _ _ (failed (sound (read (a .memory .now))) (sym (c .before .before .before .before .before .is-admitted .ensures) ∙ not-true _ (c .before .before .before .before .if2 .taken))) (c .before .before .put-answer .ensures)
 
--- src/lib.rt:159:11
 read-head-requires : tie.Need-read-head-requires
 read-head-requires c κs = search needs
 
--- src/lib.rt:160:24
 enum-known-n : tie.Need-enum-known-n
 enum-known-n c = search needs
 
--- src/lib.rt:161:17
 put-answer-requires-2 : tie.Need-put-answer-requires-2
 put-answer-requires-2 c κs =
     let a = c .before .before .before .before .before .before .before .before .before .before .before .before .before .before .args in
     let r = head-number (a .sheet .now) _ (sym (c .before .before .before .before .read-head .ensures) ∙ c .before .before .n .given .1) in
     ((passed (hasRoom (linesOf (a .lines .now) (a .used))) (sym (c .before .before .before .before .before .before .before .before .before .has-room .ensures) ∙ not-false _ (c .before .before .before .before .before .before .before .before .if1 .left))), omega (arith, r .0, head-small (a .sheet .now)), lit< tt)
 
--- src/lib.rt:168:23
 enum-known-first : tie.Need-enum-known-first
 enum-known-first c = search needs
 
--- src/lib.rt:168:33
 run-records-requires : tie.Need-run-records-requires
 run-records-requires c κs = search needs
 
--- src/lib.rt:142:1
 same-length-4 : tie.Need-same-length-4
 same-length-4 c = search needs
 
--- src/lib.rt:142:1
 same-length-5 : tie.Need-same-length-5
 same-length-5 c = search needs
 
--- src/lib.rt:142:1
 returns-3 : tie.Need-returns-3
 returns-3 c =
     let a = c .before .before .before .before .before .before .before .before .before .before .before .before .before .before .before .before .before .args in
@@ -92,15 +76,12 @@ returns-3 c =
     (passed (hasRoom (linesOf (a .lines .now) (a .used))) (sym (c .before .before .before .before .before .before .before .before .before .before .before .before .has-room .ensures) ∙ not-false _ (c .before .before .before .before .before .before .before .before .before .before .before .if1 .left)))
     _ _ _ (passed (sound (read (a .memory .now))) (sym (c .before .before .before .before .before .before .before .before .before .is-admitted .ensures) ∙ not-false _ (c .before .before .before .before .before .before .before .before .if2 .left))) (sym (c .before .before .before .before .before .before .before .read-head .ensures) ∙ c .before .before .before .before .before .n .given .1) (c .before .before .put-answer2 .ensures)
 
--- src/lib.rt:142:1
 same-length-6 : tie.Need-same-length-6
 same-length-6 c = search needs
 
--- src/lib.rt:142:1
 same-length-7 : tie.Need-same-length-7
 same-length-7 c = search needs
 
--- src/lib.rt:142:1
 returns-4 : tie.Need-returns-4
 returns-4 c =
     let a = c .before .before .before .before .before .before .before .before .before .before .before .before .before .before .before .before .before .before .before .before .args in

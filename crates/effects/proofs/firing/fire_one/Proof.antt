@@ -1,15 +1,15 @@
 use Rattle.session.specs.Table.{read, put}
 use Rattle.session.specs.TableLaws.{wrote-more, wrote-none}
-use Rattle.session.specs.Names.{fired}
+use Rattle.session.specs.Names.{fired, ready}
 use Rattle.session.specs.declared.Field.the-variants.{EventState, EventPayload}
-use Rattle.effects.specs.Firing.{linksAfter, fireOne-sweep}
+use Rattle.effects.specs.Firing.{openLinksSet, fireOne-words}
 use Rattle.effects.specs.Puts.{wrote-next}
 use borrow.Author.Needs.{needs}
 use Rattle.effects.proofs.firing.fire_one.Statement.{statement}
 use Rattle.effects.proofs.firing.fire_one.Tie as tie
 use Rattle.effects.proofs.firing.fire_one.Reads as reads
 use Rattle.effects.proofs.firing.fire_one.Lts as lts
-use Rattle.effects.proofs.firing.ready_links.Reads as ready-links-reads
+use Rattle.effects.proofs.firing.set_open_links.Reads as set-open-links-reads
 use Rattle.session.proofs.set.Reads as set-reads
 
 set-requires : tie.Need-set-requires
@@ -18,14 +18,14 @@ set-requires c κs = search needs
 set-requires-2 : tie.Need-set-requires-2
 set-requires-2 c κs = search needs
 
-ready-links-requires : tie.Need-ready-links-requires
+set-open-links-requires : tie.Need-set-open-links-requires
 unfolding put
-ready-links-requires c κs =
+set-open-links-requires c κs =
     let two = c .before .before .before in
     let one = two .before .before .before .before in
     let at = one .before .before .before in
     let w = wrote-more EventPayload _ _ (wrote-more EventState _ _ (wrote-none (at .args .s .now)) (one .set .ensures)) (two .set2 .ensures) in
-    (search needs, rw (w .reading) (at .pre .2))
+    (search needs, rw (w .reading) (at .pre .2), rw (w .reading) (at .pre .3))
 
 same-length : tie.Need-same-length
 same-length c = search needs
@@ -37,8 +37,8 @@ returns c =
     let at = one .before .before .before in
     let a = at .args in
     let w = wrote-more EventPayload (a .e) (a .p) (wrote-more EventState (a .e) fired (wrote-none (a .s .now)) (one .set .ensures)) (two .set2 .ensures) in
-    rw (← fireOne-sweep (read (a .s .now)) (a .e) (a .p) (at .pre .3)) (wrote-next (λ r. linksAfter r (a .e)) w (c .before .before .ready-links .ensures))
+    rw (← fireOne-words (read (a .s .now)) (a .e) (a .p)) (wrote-next (λ r. openLinksSet r (a .e) ready) w (c .before .before .set-open-links .ensures))
 
 pub fire-one-spec : {M : Type 1} → statement M
 fire-one-spec =
-    tie.close (tie.spec set-requires set-requires-2 ready-links-requires same-length returns)
+    tie.close (tie.spec set-requires set-requires-2 set-open-links-requires same-length returns)

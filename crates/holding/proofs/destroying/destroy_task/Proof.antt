@@ -7,6 +7,7 @@ use Rattle.rules.specs.Effects.{fireFinished}
 use Rattle.effects.specs.Puts.{wrote-next}
 use Rattle.holding.specs.Tidy.{tidy-state}
 use Rattle.holding.specs.Parts.{outputDestroyed, tidy-outputDestroyed, low-state, destroyTask-parts}
+use Rattle.holding.specs.Climb.{only-above, own-state, own-destroyed}
 use borrow.Author.Needs.{needs}
 use Rattle.holding.proofs.destroying.destroy_task.Statement.{statement}
 use Rattle.holding.proofs.destroying.destroy_task.Tie as tie
@@ -33,7 +34,9 @@ fire-finished-requires c κs =
     let a = x .args in
     let s = read (now (a .s)) in
     let w = wrote-next (λ r. outputDestroyed r (a .t)) (f .set .ensures) (g .destroy-output .ensures) in
-    (omega (arith, w .same-length, p .0), rw (← w .reading) at (tidy-outputDestroyed (put s TaskState (a .t) taskDestroyed) (a .t) (tidy-state s (p .2) (a .t) taskDestroyed)))
+    let r = put s TaskState (a .t) taskDestroyed in
+    let own = own-destroyed s (a .t) r (own-state s (a .t) taskDestroyed) in
+    (omega (arith, w .same-length, p .0), rw (← w .reading) at (tidy-outputDestroyed r (a .t) (tidy-state s (p .2) (a .t) taskDestroyed)), rw (← w .reading) at (only-above s (outputDestroyed r (a .t)) (a .t) (p .2) (p .5) own (p .4)))
 
 same-length : tie.Need-same-length
 same-length c = search needs

@@ -6,6 +6,7 @@ use Rattle.session.specs.declared.Field.the-variants.{TaskState}
 use Rattle.rules.specs.Effects.{fireFinished}
 use Rattle.effects.specs.Puts.{wrote-next}
 use Rattle.holding.specs.Parts.{ending, outputFired, tidy-outputFired, tidy-ending, low-ending, end-parts}
+use Rattle.holding.specs.Climb.{only-above, own-ending, own-fired}
 use borrow.Author.Needs.{needs}
 use Rattle.holding.proofs.ending.end_task.Statement.{statement}
 use Rattle.holding.proofs.ending.end_task.Tie as tie
@@ -37,7 +38,8 @@ fire-finished-requires c κs =
     let a = x .args in
     let s = read (now (a .s)) in
     let w = wrote-next (λ r. outputFired r (a .t) (a .b)) (wrote-next (λ r. put r TaskState (a .t) ended) (f .let-go-all .ensures) (g .set .ensures)) (h .fire-output .ensures) in
-    (omega (arith, w .same-length, p .0), rw (← w .reading) at (tidy-outputFired (ending s (a .t)) (a .t) (a .b) (tidy-ending s (a .t) (p .2))))
+    let own = own-fired s (a .t) (ending s (a .t)) (own-ending s (a .t)) (a .b) in
+    (omega (arith, w .same-length, p .0), rw (← w .reading) at (tidy-outputFired (ending s (a .t)) (a .t) (a .b) (tidy-ending s (a .t) (p .2))), rw (← w .reading) at (only-above s (outputFired (ending s (a .t)) (a .t) (a .b)) (a .t) (p .2) (p .8) own (p .7)))
 
 same-length : tie.Need-same-length
 same-length c = search needs

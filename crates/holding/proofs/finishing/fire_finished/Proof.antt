@@ -1,15 +1,13 @@
-use mathlib.Core.Path.{sym, _∙_}
 use denote.Ref.{now}
 use Rattle.session.specs.Table.{read}
 use Rattle.session.specs.TableLaws.{wrote-none}
-use Rattle.rules.specs.FormulaLaws.{failed}
-use Rattle.holding.specs.Finish.{none-waits}
+use Rattle.holding.specs.Finish.{fires-nothing}
 use borrow.Author.Needs.{needs}
 use Rattle.holding.proofs.finishing.fire_finished.Statement.{statement}
 use Rattle.holding.proofs.finishing.fire_finished.Tie as tie
 
-any-waiting-requires : tie.Need-any-waiting-requires
-any-waiting-requires c κs = search needs
+may-finish-requires : tie.Need-may-finish-requires
+may-finish-requires c κs = search needs
 
 fire-waiting-requires : tie.Need-fire-waiting-requires
 fire-waiting-requires c κs = search needs
@@ -26,13 +24,13 @@ same-length-2 c = search needs
 returns-2 : tie.Need-returns-2
 returns-2 c =
     let x = c .before .before .before .before in
-    rw (none-waits (read (now (x .args .s))) (x .pre .1) (failed _ (sym (c .before .any-waiting .ensures) ∙ c .if1 .left))) (wrote-none _)
+    rw (fires-nothing (read (now (x .args .s))) (c .before .may-finish .ensures (c .if1 .left))) (wrote-none _)
 
 pub fire-finished-spec : {M : Type 1} → statement M
 fire-finished-spec =
     tie.close
     (tie.spec
-    any-waiting-requires
+    may-finish-requires
     fire-waiting-requires
     same-length
     returns

@@ -1,4 +1,5 @@
 mod by_operation;
+mod passes;
 mod sheets;
 
 use std::time::{Duration, Instant};
@@ -48,6 +49,8 @@ fn main() {
     }
     let growth = |way: usize| figures[4].nanos[way] / figures[1].nanos[way];
     println!("| 512 over 64 | | {:.1} | {:.1} | {:.1} | {:.1} |", growth(0), growth(1), growth(2), growth(3));
+    println!();
+    passes::print(Grown::to(11, 512, 2_048).memory().words(), figures[4].nanos[0]);
     println!();
     by_operation::print_table([(64, 256), (512, 2_048)]);
     println!();

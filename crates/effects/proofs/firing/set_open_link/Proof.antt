@@ -1,9 +1,9 @@
 use mathlib.Core.Path.{sym, _∙_}
 use Rattle.session.specs.TableLaws.{wrote-none}
-use Rattle.holding.specs.Cutting.{cut-yes, cut-no}
+use Rattle.effects.specs.Firing.{set-yes, set-no}
 use borrow.Author.Needs.{needs}
-use Rattle.holding.proofs.destroying.cut_link.Statement.{statement}
-use Rattle.holding.proofs.destroying.cut_link.Tie as tie
+use Rattle.effects.proofs.firing.set_open_link.Statement.{statement}
+use Rattle.effects.proofs.firing.set_open_link.Tie as tie
 
 get-requires : tie.Need-get-requires
 get-requires c κs = search needs
@@ -21,22 +21,22 @@ returns : tie.Need-returns
 returns c =
     let f = c .before .before in
     let g = f .before .before in
-    rw (cut-yes _ _ _ (sym (g .before .before .before .before .get .ensures) ∙ g .before .before .before .if1 .taken) (sym (g .before .get2 .ensures) ∙ g .if2 .taken)) (f .set .ensures)
+    rw (set-yes _ _ _ _ (sym (g .before .before .before .before .get .ensures) ∙ g .before .before .before .if1 .taken) (sym (g .before .get2 .ensures) ∙ g .if2 .taken)) (f .set .ensures)
 
 same-length-2 : tie.Need-same-length-2
 same-length-2 c = search needs
 
 returns-2 : tie.Need-returns-2
-returns-2 c = rw (cut-no _ _ _ (λ x. c .if2 .left (c .before .get2 .ensures ∙ x .1))) (wrote-none _)
+returns-2 c = rw (set-no _ _ _ _ (λ x. c .if2 .left (c .before .get2 .ensures ∙ x .1))) (wrote-none _)
 
 same-length-3 : tie.Need-same-length-3
 same-length-3 c = search needs
 
 returns-3 : tie.Need-returns-3
-returns-3 c = rw (cut-no _ _ _ (λ x. c .if1 .left (c .before .get .ensures ∙ x .0))) (wrote-none _)
+returns-3 c = rw (set-no _ _ _ _ (λ x. c .if1 .left (c .before .get .ensures ∙ x .0))) (wrote-none _)
 
-pub cut-link-spec : {M : Type 1} → statement M
-cut-link-spec =
+pub set-open-link-spec : {M : Type 1} → statement M
+set-open-link-spec =
     tie.close
     (tie.spec
     get-requires

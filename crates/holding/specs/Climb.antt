@@ -1,0 +1,191 @@
+-- Who can be done once a task has ended or was destroyed: the task itself, and those above it that are reached over tasks that
+-- are not live. Of any other the output event fired when it should have.
+use Prim.Native.Nat.{ℕ, zero, suc, _+_, _-_, _≤_, _<_}
+use mathlib.Core.Path.{_≡_, refl, sym, subst, _∙_}
+use mathlib.Core.Logic.{_⊎_, inl, inr}
+use native.Mathlib.Omega.{arith}
+use native.Mathlib.Decide.{decLt}
+use Rattle.session.specs.Table.{Session, put, change}
+use Rattle.session.specs.declared.Field.the-variants.{Objects, Kind, TaskState, TaskCreator, TaskFinish, TaskOutput, EventState, EventType}
+use Rattle.session.specs.Names.{event, running, ended, eventOpen, fired, destroyedFired, destroyedUnfired}
+use Rattle.rules.specs.Formula.{holds, choose, Formula._≐_, Formula._≼_, Formula._and_}
+use Rattle.rules.specs.FormulaLaws.{Case, decide, choose-yes, choose-no, Case.it-does, Case.it-does-not}
+use Rattle.rules.specs.Reading.{made, under, busy}
+use Rattle.rules.specs.Sound.{outputs}
+use Rattle.rules.specs.Effects.{finishes, letGo, buryDoomed, fire, fireOne, destroyEvent}
+use Rattle.laws.specs.Places.{Places, places, put-there, Places.one, Places.two}
+use Rattle.laws.specs.Under.{under-enough, or-map}
+use Rattle.holding.specs.Tidy.{Tidy}
+use Rattle.holding.specs.Finish.{waits, waits-of, NoneFinish}
+use Rattle.holding.specs.Parts.{either-way, outputDestroyed, outputFired, ending}
+
+-- a is h, or stands above it by the creators given
+abbrev Reached : (ℕ → ℕ) → ℕ → ℕ → Type 0
+Reached c h a = (1 ≤ h) × ((h ≡ a) ⊎ holds (under c h h a))
+
+-- no output event finishes but those of h, which is at most the last handle, and of the tasks above it
+pub record OnlyAbove (s : Session) (h : ℕ) : Type 0 where
+  pub known : h ≤ s Objects 0
+  pub reached : (e : ℕ) → holds (finishes s e) → Reached (s TaskCreator) h (e - 1)
+
+-- the creator of h, or 0 if it is live
+unfoldable pub doneCreator : Session → ℕ → ℕ
+doneCreator s h = choose (s TaskState (s TaskCreator h) ≼ running) 0 (s TaskCreator h)
+
+pub creator-live : (s : Session) (h : ℕ) → s TaskState (s TaskCreator h) ≤ running → doneCreator s h ≡ 0
+unfolding doneCreator
+creator-live s h l = choose-yes (s TaskState (s TaskCreator h) ≼ running) 0 (s TaskCreator h) l
+
+pub creator-done : (s : Session) (h : ℕ) → (s TaskState (s TaskCreator h) ≤ running → ⊥) → doneCreator s h ≡ s TaskCreator h
+unfolding doneCreator
+creator-done s h n = choose-no (s TaskState (s TaskCreator h) ≼ running) 0 (s TaskCreator h) n
+
+-- handle 0 stands below nobody
+pub none-finish : (s : Session) → OnlyAbove s 0 → NoneFinish s
+unfolding NoneFinish
+none-finish s o e f = let z = o .reached e f .0 in omega arith
+
+-- who stands above h is its creator or stands above that one
+above-creator : (c : ℕ → ℕ) (n : ℕ) → ((h : ℕ) → h ≤ n → 1 ≤ c h → c h < h) → (h a : ℕ) → h ≤ n → holds (under c h h a) → Reached c (c h) a
+unfolding under
+above-creator c n falls zero a l x = absurd x
+above-creator c n falls (suc k) a l x =
+    let f : c (suc k) < suc k = falls (suc k) l (x .0) in
+    (x .0, or-map (under-enough c n falls k (c (suc k)) (c (suc k)) a (omega arith) (omega arith)) (x .1))
+
+module _ (s : Session) (x : Tidy s) (h : ℕ) (l : h ≤ s Objects 0) where
+  abbrev c : ℕ → ℕ
+  c = s TaskCreator
+
+  pub creator-made : c h ≤ s Objects 0
+  creator-made = go (decLt 0 (c h))
+    where
+      go : Dec (0 < c h) → c h ≤ s Objects 0
+      go (yes p) = let f = x .frame .falls h l p in omega arith
+      go (no n) = omega arith
+
+  pub done-lower : 1 ≤ h → doneCreator s h < h
+  done-lower m = go (decide (s TaskState (c h) ≼ running)) (decLt 0 (c h))
+    where
+      go : Case (s TaskState (c h) ≼ running) → Dec (0 < c h) → doneCreator s h < h
+      go (it-does live) d = rw (creator-live s h live) m
+      go (it-does-not n) (yes p) = rw (creator-done s h n) (x .frame .falls h l p)
+      go (it-does-not n) (no q) = rw (creator-done s h n) (omega arith)
+
+  -- nothing that finishes is a live task or stands above one
+  live-stops : (a : ℕ) → s TaskState (c h) ≤ running → s TaskState a ≡ ended → (holds (busy s a) → ⊥) → Reached c (c h) a → ⊥
+  live-stops a live e idle y = go (y .1)
+    where
+      go : (c h ≡ a) ⊎ holds (under c (c h) (c h) a) → ⊥
+      go (inl q) = let z : s TaskState (c h) ≡ ended = rw q e in omega arith
+      go (inr u) = idle (c h, (let b = creator-made in omega arith), ((x .frame .makers h l (y .0), live), u))
+
+  -- one step up
+  pub climbs : 1 ≤ h → OnlyAbove s h → (holds (waits s (h + 1)) → ⊥) → OnlyAbove s (doneCreator s h)
+  climbs m o n = record { known = let d = done-lower m in omega arith; reached = λ e f. go e f (decide (s TaskState (c h) ≼ running)) }
+    where
+      up : (e : ℕ) → holds (finishes s e) → (h ≡ e - 1) ⊎ holds (under c h h (e - 1)) → Reached c (c h) (e - 1)
+      up e f (inl q) = let p : e ≡ h + 1 = omega arith in absurd (n (subst (λ (i : ℕ). holds (waits s i)) p (waits-of s e f)))
+      up e f (inr u) = above-creator c (s Objects 0) (x .frame .falls) h (e - 1) l u
+
+      above : (e : ℕ) → holds (finishes s e) → Reached c (c h) (e - 1)
+      above e f = up e f (o .reached e f .1)
+
+      go : (e : ℕ) → holds (finishes s e) → Case (s TaskState (c h) ≼ running) → Reached c (doneCreator s h) (e - 1)
+      go e f (it-does live) = absurd (live-stops (e - 1) live (f .1 .1 .1 .1 .0) (f .1 .1 .1 .1 .1) (above e f))
+      go e f (it-does-not d) = rw (creator-done s h d) (above e f)
+
+-- of what `finishes` reads, r is s but for the states of task t and of its output event
+pub record OnlyOwn (s r : Session) (t : ℕ) : Type 0 where
+  pub count : r Objects 0 ≡ s Objects 0
+  pub kinds : (h : ℕ) → r Kind h ≡ s Kind h
+  pub types : (e : ℕ) → r EventType e ≡ s EventType e
+  pub creators : r TaskCreator ≡ s TaskCreator
+  pub tasks : (u : ℕ) → (t ≡ u → ⊥) → r TaskState u ≡ s TaskState u
+  pub events : (e : ℕ) → (t + 1 ≡ e → ⊥) → r EventState e ≡ s EventState e
+
+module _ (s r : Session) (t : ℕ) (x : Tidy s) (o : holds (outputs s)) (own : OnlyOwn s r t) where
+  -- an event is made
+  event-made : (e : ℕ) → s Kind e ≡ event → holds (made s e)
+  event-made e k = (some e k, low (decLt (s Objects 0) e))
+    where
+      some : (i : ℕ) → s Kind i ≡ event → 1 ≤ i
+      some zero q = let z = x .frame .null in absurd (omega arith)
+      some (suc i) q = omega arith
+
+      low : Dec (s Objects 0 < e) → e ≤ s Objects 0
+      low (yes l) = let z = x .frame .unmade e l in absurd (omega arith)
+      low (no n) = omega arith
+
+  -- who does not stand above t is as busy as before
+  idle-before : (a : ℕ) → (holds (under (s TaskCreator) t t a) → ⊥) → (holds (busy r a) → ⊥) → holds (busy s a) → ⊥
+  idle-before a n idle b = go (places t (b .0))
+    where
+      go : Places t (b .0) → ⊥
+      go (one q) = n (subst (λ (h : ℕ). holds (under (s TaskCreator) h h a)) (sym q) (b .2 .1))
+      go (two m) =
+          idle (b .0, rw (own .count) (b .1), ((own .kinds (b .0) ∙ b .2 .0 .0, rw (own .tasks (b .0) m) (b .2 .0 .1)), rw (own .creators) (b .2 .1)))
+
+  -- so its output event had fired
+  fired-before : (e : ℕ) → (t ≡ e - 1 → ⊥) → (holds (under (s TaskCreator) t t (e - 1)) → ⊥) → holds (finishes r e) → s EventState e ≡ fired
+  fired-before e n u f =
+      let k : s Kind e ≡ event = sym (own .kinds e) ∙ f .0 in
+      let lo = event-made e k .0 in
+      let hi = event-made e k .1 in
+      let of = o e (omega arith) .1 (k, sym (own .types e) ∙ f .1 .0) in
+      let out = o (e - 1) (omega arith) .0 of in
+      let back : e - 1 + 1 ≡ e = omega arith in
+      rw back at (out .1 .1 .1 .0 .1 (sym (own .tasks (e - 1) n) ∙ f .1 .1 .1 .1 .0, inr (idle-before (e - 1) u (f .1 .1 .1 .1 .1))))
+
+  pub only-above : holds (made s t) → OnlyAbove r t
+  only-above m = record { known = rw (own .count) (m .1); reached = λ e f. (m .0, go e f (places t (e - 1)) (decide (under (s TaskCreator) t t (e - 1)))) }
+    where
+      go : (e : ℕ) → holds (finishes r e) → Places t (e - 1) → Case (under (s TaskCreator) t t (e - 1)) → (t ≡ e - 1) ⊎ holds (under (r TaskCreator) t t (e - 1))
+      go e f (one q) d = inl q
+      go e f (two n) (it-does u) = inr (rw (own .creators) u)
+      go e f (two n) (it-does-not u) =
+          let was : s EventState e ≡ fired = fired-before e n u f in
+          let stays : r EventState e ≡ s EventState e = own .events e (λ q. n (omega arith)) in
+          let unfired : r EventState e ≡ eventOpen = f .1 .1 .0 in
+          absurd (omega arith)
+
+-- what an end and the destroying of a task write before that
+module _ (s : Session) (t : ℕ) where
+  pub own-state : (v : ℕ) → OnlyOwn s (put s TaskState t v) t
+  unfolding put
+  own-state v = record { count = refl; kinds = λ h. refl; types = λ e. refl; creators = refl; tasks = λ u n. put-there s TaskState t u v n; events = λ e n. refl }
+
+  pub own-ending : OnlyOwn s (ending s t) t
+  unfolding put letGo buryDoomed change
+  own-ending = record { count = refl; kinds = λ h. refl; types = λ e. refl; creators = refl; tasks = λ u n. put-there s TaskState t u ended n; events = λ e n. refl }
+
+  module _ (r : Session) (own : OnlyOwn s r t) where
+    own-fireOne : (b : ℕ) → OnlyOwn s (fireOne r (t + 1) b) t
+    unfolding fireOne fire change
+    own-fireOne b = record {
+      count = own .count;
+      kinds = own .kinds;
+      types = own .types;
+      creators = own .creators;
+      tasks = own .tasks;
+      events = λ e n. choose-no (e ≐ t + 1) fired (r EventState e) (λ q. n (sym q)) ∙ own .events e n;
+    }
+
+    own-destroyEvent : OnlyOwn s (destroyEvent r (t + 1)) t
+    unfolding destroyEvent put change
+    own-destroyEvent = record {
+      count = own .count;
+      kinds = own .kinds;
+      types = own .types;
+      creators = own .creators;
+      tasks = own .tasks;
+      events = λ e n. put-there r EventState (t + 1) e (choose (r EventState (t + 1) ≐ fired) destroyedFired destroyedUnfired) n ∙ own .events e n;
+    }
+
+    pub own-fired : (b : ℕ) → OnlyOwn s (outputFired r t b) t
+    unfolding outputFired
+    own-fired b = either-way (λ q. OnlyOwn s q t) (r TaskOutput t ≐ 1 and r TaskFinish t ≐ 0) (fireOne r (t + 1) b) r (own-fireOne b) own
+
+    pub own-destroyed : OnlyOwn s (outputDestroyed r t) t
+    unfolding outputDestroyed
+    own-destroyed = either-way (λ q. OnlyOwn s q t) (r TaskOutput t ≐ 1) (destroyEvent r (t + 1)) r own-destroyEvent own

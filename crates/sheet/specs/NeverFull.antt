@@ -1,0 +1,194 @@
+-- Lines memory that is large enough for its sheet is never full: no run over it ends by 1, and the last line has its room. Each
+-- record that is run takes two bytes of the sheet at least, and its line 32 at most: so 16 bytes of lines for each byte of the
+-- sheet are enough, with two lines more, for the record that ends the sheet and for the last line.
+use Prim.Native.Nat.{ℕ, zero, suc, _+_, _*_, _-_, _^_, _≤_, _<_}
+use mathlib.Core.List.{List, [], _∷_}
+use mathlib.Core.Path.{_≡_, refl, sym, _∙_}
+use native.Mathlib.Omega.{arith}
+use lib.Dec.{lit<}
+use lib.ListN.{length}
+use borrow.Author.Tests.{le-leb}
+use Rattle.number.specs.Number.{limit32, readAt}
+use Rattle.number.specs.Laws.{value-next}
+use Rattle.number.specs.Splice.{splice-length}
+use Rattle.lines.specs.Line.{line}
+use Rattle.lines.specs.LineLaws.{line-short}
+use Rattle.session.specs.Table.{Session, words}
+use Rattle.rules.specs.Arity.{isCode}
+use Rattle.rules.specs.Checks.{Check, refusal}
+use Rattle.rules.specs.Formula.{holds, test, Formula._≐_, Formula._≼_, Formula._then_, Formula.each}
+use Rattle.rules.specs.FormulaLaws.{Case, decide, passed, choose-yes, choose-no, Case.it-does, Case.it-does-not}
+use Rattle.rules.specs.Sound.{sound}
+use Rattle.rules.specs.Step.{step}
+use Rattle.record.specs.Reading.{place, fieldCount, codeAt, firstField, countAt, recordChecks, recordAt}
+use Rattle.record.specs.Refusals.{number-none, answered-number}
+use Rattle.record.specs.Fields.{AllRead, fields-onward}
+use Rattle.record.specs.Cases.{accepted}
+use Rattle.record.specs.Laws.{record-forward, record-refusals}
+use Rattle.record.specs.Sheet.{headRefusal, headChecks, firstRecord}
+use Rattle.sheet.specs.declared.Ended.{Ended}
+use Rattle.sheet.specs.Run.{Lines, hasRoom, withLine, Run, ended, endedBy, runFrom, runSheet}
+use Rattle.sheet.specs.RunLaws.{run-end, run-unsound, run-refused, run-on, sheet-unsound, sheet-refused, sheet-runs}
+use Rattle.sheet.specs.Replies.{reply-small}
+use Rattle.sheet.specs.Going.{linesOf, Ends}
+use Rattle.sheet.specs.Whole.{Ran, head-small}
+use Rattle.sheet.specs.Closing.{withLast, closed, closed-room}
+
+-- A run that did not end by 1, and has room for the last line.
+pub record Closable (r : Run) : Type 0 where
+  pub not-full : r .ending ≡ 1 → ⊥
+  pub room : holds (hasRoom (r .lines))
+
+-- Every operation has a field, so that a record takes two bytes at least.
+fields-some : (code : ℕ) → holds (isCode code) → 1 ≤ fieldCount code
+unfolding test
+fields-some code h = passed (each 13 (λ c. 1 ≼ c then 1 ≼ fieldCount c)) refl code (omega arith) (h .0)
+
+fields-take : (bytes : List ℕ) (first n : ℕ) → 1 ≤ n → first ≤ length bytes → AllRead bytes first n → first < place bytes first n
+fields-take bytes first zero h l all = absurd (omega arith)
+fields-take bytes first (suc n) h l all =
+    let o = fields-onward bytes first n l (λ k p. all k (omega arith)) in
+    let v = value-next limit32 bytes (place bytes first n) _ _ (all n (omega arith)) in
+    omega (arith, o .onward, v .1)
+
+two-bytes : (bytes : List ℕ) (at : ℕ) → recordAt bytes at .refused ≡ 0 → at + 2 ≤ recordAt bytes at .next
+two-bytes bytes at e =
+    let r = accepted bytes at e in
+    let head = value-next limit32 bytes at (codeAt bytes at) (firstField bytes at) (r .code-read) in
+    let on = fields-take bytes (firstField bytes at) (countAt bytes at) (fields-some (codeAt bytes at) (r .known)) (head .2) (r .fields) in
+    let two : at + 2 ≤ place bytes (firstField bytes at) (countAt bytes at) = omega (arith, head .1, on) in
+    rw (r .says) two
+
+-- checks that do not have this number refuse by another
+abbrev Others : ℕ → List Check → Type 0
+Others n [] = Unit {0}
+Others n (c ∷ cs) = (c .number ≡ n → ⊥) × Others n cs
+
+refusal-other : (n : ℕ) (cs : List Check) → 0 < n → Others n cs → refusal cs ≡ n → ⊥
+unfolding refusal
+refusal-other n [] p u e = omega arith
+refusal-other n (c ∷ cs) p u e = go (decide (c .rule)) (refusal-other n cs p (u .1))
+  where
+    go : Case (c .rule) → (refusal cs ≡ n → ⊥) → ⊥
+    go (it-does h) again = again (sym (choose-yes (c .rule) (refusal cs) (c .number) h) ∙ e)
+    go (it-does-not f) again = u .0 (sym (choose-no (c .rule) (refusal cs) (c .number) f) ∙ e)
+
+record-not-full : (sheet : List ℕ) (at : ℕ) → recordAt sheet at .refused ≡ 1 → ⊥
+unfolding recordAt
+record-not-full sheet at e =
+    refusal-other 1 (recordChecks sheet at) (lit< tt) (λ x. omega arith, (λ x. omega arith, (λ x. omega arith, (λ x. omega arith, (λ x. omega arith, tt)))))
+    (sym (answered-number (refusal (recordChecks sheet at)) _ _) ∙ e)
+
+head-not-full : (sheet : List ℕ) → headRefusal sheet ≡ 1 → ⊥
+head-not-full sheet = refusal-other 1 (headChecks sheet) (lit< tt) (λ x. omega arith, (λ x. omega arith, (λ x. omega arith, tt)))
+
+-- the first number ends in the sheet
+head-inside : (sheet : List ℕ) → headRefusal sheet ≡ 0 → firstRecord sheet ≤ length sheet
+head-inside sheet z = value-next limit32 sheet 0 _ (firstRecord sheet) (number-none _ 0 (readAt limit32 sheet 0) z .0) .2
+
+module _ (l : Lines) (a b c : ℕ) (room : holds (hasRoom l)) (ha : a < 2 ^ 64) (hb : b < 100) (hc : c < 10000) where
+  -- a line takes 32 bytes at most, and the memory keeps its length
+  line-used : withLine l a b c .used ≤ l .used + 32
+  unfolding withLine
+  line-used = omega (arith, line-short a b c ha hb hc)
+
+  line-kept : length (withLine l a b c .bytes) ≡ length (l .bytes)
+  unfolding withLine
+  line-kept = splice-length (l .bytes) (l .used) (line a b c) (omega (arith, line-short a b c ha hb hc))
+
+-- the line that ends a sheet leaves room for the last one
+closable-by : (s : Session) (l : Lines) (k n : ℕ) → l .used + 64 ≤ length (l .bytes) → k < 2 ^ 64 → n < 100 → (n ≡ 1 → ⊥) → Closable (endedBy s l k n)
+unfolding endedBy
+closable-by s l k n h hk hn f =
+    let u = line-used l k n 0 (omega arith) hk hn (lit< tt) in
+    let e = line-kept l k n 0 (omega arith) hk hn (lit< tt) in
+    record { not-full = f; room = omega arith }
+
+-- What is needed before the record at a place.
+pub record Spare (sheet : List ℕ) (at k : ℕ) (l : Lines) : Type 0 where
+  pub small : length sheet < 2 ^ 64
+  pub count : k ≤ at
+  pub inside : at ≤ length sheet
+  pub bytes : l .used + 16 * (length sheet - at) + 64 ≤ length (l .bytes)
+
+-- and it is there before the next one
+spare-on : (sheet : List ℕ) (at k : ℕ) (s : Session) (l : Lines) → Spare sheet at k l → at < length sheet → holds (sound s) → recordAt sheet at .refused ≡ 0
+    → Spare sheet (recordAt sheet at .next) (k + 1) (withLine l (k + 1) (step s (recordAt sheet at .operation) .refused) (step s (recordAt sheet at .operation) .made))
+spare-on sheet at k s l g b is z =
+    let op = recordAt sheet at .operation in
+    let small = reply-small s op is in
+    let two = two-bytes sheet at z in
+    let low : k + 1 < 2 ^ 64 = omega arith in
+    let u = line-used l (k + 1) (step s op .refused) (step s op .made) (omega (arith, g .bytes)) low (small .0) (small .1) in
+    let e = line-kept l (k + 1) (step s op .refused) (step s op .made) (omega (arith, g .bytes)) low (small .0) (small .1) in
+    let inside = record-forward sheet at z .inside in
+    record { small = g .small; count = omega (arith, g .count); inside = inside; bytes = omega (arith, g .bytes) }
+
+-- the case of no steps
+run-none : (sheet : List ℕ) (at k : ℕ) (s : Session) (l : Lines) → runFrom sheet zero at k s l ≡ ended s l k 0
+unfolding runFrom
+run-none sheet at k s l = refl
+
+-- what holds of every run in fewer steps
+abbrev Again : List ℕ → ℕ → Type 0
+Again sheet n = (at k : ℕ) (s : Session) (l : Lines) → Spare sheet at k l → Closable (runFrom sheet n at k s l)
+
+run-closable : (sheet : List ℕ) (n : ℕ) → Again sheet n
+run-closable sheet zero at k s l g = rw (run-none sheet at k s l) (record { not-full = λ e. omega arith; room = omega (arith, g .bytes) })
+run-closable sheet (suc n) at k s l g = ends (decide (length sheet ≼ at)) (run-closable sheet n)
+  where
+    reads : at < length sheet → holds (hasRoom l) → holds (sound s) → Case (recordAt sheet at .refused ≐ 0) → Again sheet n → Closable (runFrom sheet (suc n) at k s l)
+    reads b o i (it-does-not f) again =
+        let m = record-refusals sheet at in
+        rw (run-refused sheet at k s l n b o i f)
+        (closable-by s l (k + 1) (recordAt sheet at .refused) (omega (arith, g .bytes)) (omega (arith, g .small, g .count)) (omega arith) (record-not-full sheet at))
+    reads b o i (it-does z) again = rw (run-on sheet at k s l n b o i z) (again _ _ _ _ (spare-on sheet at k s l g b i z))
+
+    sounds : at < length sheet → holds (hasRoom l) → Case (sound s) → Again sheet n → Closable (runFrom sheet (suc n) at k s l)
+    sounds b o (it-does-not f) again =
+        rw (run-unsound sheet at k s l n b o f)
+        (closable-by s l (k + 1) 2 (omega (arith, g .bytes)) (omega (arith, g .small, g .count)) (lit< tt) (λ e. omega arith))
+    sounds b o (it-does i) again = reads b o i (decide (recordAt sheet at .refused ≐ 0)) again
+
+    ends : Case (length sheet ≼ at) → Again sheet n → Closable (runFrom sheet (suc n) at k s l)
+    ends (it-does h) again =
+        rw (run-end sheet at k s l (suc n) h) (record { not-full = λ e. omega arith; room = omega (arith, g .bytes) })
+    ends (it-does-not f) again = sounds (below f) (omega (arith, g .bytes)) (decide (sound s)) again
+      where
+        below : (length sheet ≤ at → ⊥) → at < length sheet
+        below f = omega arith
+
+-- The theorem, for any session: 16 bytes for each byte of the sheet and 64 more are enough.
+pub never-full : (sheet : List ℕ) (s : Session) (l : Lines) → length sheet < 2 ^ 64 → l .used + 16 * length sheet + 64 ≤ length (l .bytes)
+    → Closable (runSheet sheet s l)
+never-full sheet s l small h = sounds (decide (sound s))
+  where
+    room : holds (hasRoom l)
+    room = omega arith
+
+    heads : holds (sound s) → Case (headRefusal sheet ≐ 0) → Closable (runSheet sheet s l)
+    heads i (it-does-not f) =
+        let m = head-small sheet in
+        rw (sheet-refused sheet s l room i f) (closable-by s l 0 (headRefusal sheet) (omega arith) (lit< tt) (omega arith) (head-not-full sheet))
+    heads i (it-does z) =
+        rw (sheet-runs sheet s l room i z)
+        (run-closable sheet (length sheet) (firstRecord sheet) 0 s l
+        (record { small = small; count = omega arith; inside = head-inside sheet z; bytes = omega arith }))
+
+    sounds : Case (sound s) → Closable (runSheet sheet s l)
+    sounds (it-does-not f) = rw (sheet-unsound sheet s l room f) (closable-by s l 0 2 (omega arith) (lit< tt) (lit< tt) (λ e. omega arith))
+    sounds (it-does i) = heads i (decide (headRefusal sheet ≐ 0))
+
+-- The sheet program reads 32,768 bytes at most and lends 524,800 for the lines, of which none is used, and memory for a session:
+-- its run "never meets 1", and its last line is written.
+pub never-meets-1 : (sheet before after lines lines′ : List ℕ) (e : Ended) (s : Session)
+    → length sheet ≤ 32768
+    → 524800 ≤ length lines
+    → words ≤ length before
+    → Ran sheet before after lines lines′ 0 e s
+    → (e .ending ≡ 1 → ⊥) × (closed after (linesOf lines′ (e .used)) ≡ withLast after (linesOf lines′ (e .used)))
+never-meets-1 sheet before after lines lines′ e s short long memory x =
+    let y : Ends before after lines′ e (runSheet sheet s (linesOf lines 0)) = rw (le-leb words (length before) memory) at x in
+    let c = never-full sheet s (linesOf lines 0) (omega arith) (omega arith) in
+    let room : holds (hasRoom (linesOf lines′ (e .used))) = rw (y .bytes, y .used) (c .room) in
+    (λ z. c .not-full (sym (y .ending) ∙ z), closed-room after (linesOf lines′ (e .used)) (omega (arith, y .session .same-length), room))
