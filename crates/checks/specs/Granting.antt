@@ -1,24 +1,22 @@
 -- What a grant looks at: the task as a record, and the holds that conflict with its pre-slots.
-use Prim.Native.Nat.{ℕ, zero, suc, _+_, _*_, _/_, _%_, _≤_, _<_}
-use mathlib.Core.Path.{_≡_, refl, sym, ap, _∙_}
+use Prim.Native.Nat.{ℕ, zero, suc, _+_, _*_, _≤_, _<_}
+use mathlib.Core.Path.{_≡_}
 use mathlib.Core.List.{List, [], _∷_, _++_}
-use mathlib.Core.Logic.{_⊎_, inl, inr}
-use native.Mathlib.Omega.{arith}
 use native.Mathlib.Numerals.{add-one}
-use lib.ListN.{length, getD, set, take}
+use lib.ListN.{length, set, take}
 use lib.Seq.{take-suc-set}
 use Rattle.session.specs.Table.{Session, at}
 use Rattle.session.specs.declared.Field.the-variants.{Objects, TaskState, TaskCreator, TaskSlots, TaskFinish, TaskOutput, BlockCreator, BlockHeld, SlotMode, SlotMark, SlotPayload}
 use Rattle.session.specs.Names.{granted, running, held, modeRW}
 use Rattle.rules.specs.declared.Slot.{Slot}
 use Rattle.rules.specs.declared.Task.{Task}
-use Rattle.rules.specs.Formula.{Formula, holds, not, Formula._≐_, Formula._and_, Formula._or_, Formula.each}
+use Rattle.rules.specs.Formula.{Formula, holds, not, Formula._≐_, Formula._≼_, Formula._and_, Formula._or_, Formula.each, Formula.some}
 use Rattle.rules.specs.Reading.{conflict}
 use Rattle.rules.specs.Checks.{orNull, remains, slotFree}
 
--- slot j of task t
-unfoldable pub slotAt : Session → ℕ → ℕ → Slot
-slotAt s t j = record { mode = s SlotMode (at t j); mark = s SlotMark (at t j); payload = s SlotPayload (at t j) }
+-- the slot at place i
+unfoldable pub slotAt : Session → ℕ → Slot
+slotAt s i = record { mode = s SlotMode i; mark = s SlotMark i; payload = s SlotPayload i }
 
 -- f 0, f 1, .. f (n - 1)
 unfoldable pub upTo : {A : Type 0} → ℕ → (ℕ → A) → List A
@@ -33,7 +31,7 @@ taskAt s t =
       count = s TaskSlots t;
       finish = s TaskFinish t;
       output = s TaskOutput t;
-      slots = upTo 16 (slotAt s t);
+      slots = upTo 16 (λ j. slotAt s (at t j));
     }
 
 -- one more slot read into a row of them
@@ -41,21 +39,46 @@ pub upTo-more : {A : Type 0} (l : List A) (j : ℕ) (f : ℕ → A) → j < leng
 unfolding upTo
 upTo-more l j f h e = rw (add-one, take-suc-set l j (f j), e)
 
--- a task other than t that may hold blocks by its slots
-abbrev pub isOtherHolder : Session → ℕ → ℕ → Formula
-isOtherHolder s t h = not (h ≐ t) and (s TaskState h ≐ granted or s TaskState h ≐ running)
+-- a task that may hold blocks by its slots
+abbrev pub isHolder : Session → ℕ → Formula
+isHolder s h = s TaskState h ≐ granted or s TaskState h ≐ running
 
--- at place k begin the slots of t itself or of somebody who holds nothing by them
-abbrev pub passedOver : Session → ℕ → ℕ → Formula
-passedOver s t k = k % 16 ≐ 0 and not (isOtherHolder s t (k / 16))
+-- the slot at place k is somebody's and holds its block
+abbrev pub isHold : Session → ℕ → Formula
+isHold s k = suc k ≼ 16 * (s Objects 0 + 1) and s SlotMark k ≐ held
 
--- the hold at place k, if there is one, is of block b and conflicts with a hold in mode m
-abbrev pub clash : Session → ℕ → ℕ → ℕ → Formula
-clash s b m k = s SlotMark k ≐ held and s SlotPayload k ≐ b and conflict m (s SlotMode k)
+-- from a on to r, without r, the formula holds nowhere
+pub record Passed (f : ℕ → Formula) (a r : ℕ) : Type 0 where
+  pub from : a ≤ r
+  pub none : (i : ℕ) → i < r → a ≤ i → holds (f i) → ⊥
 
--- another task than t holds block b since its creation, in conflict with a hold in mode m
-abbrev pub makerClash : Session → ℕ → ℕ → ℕ → Formula
-makerClash s t b m = s BlockHeld b ≐ 1 and not (s BlockCreator b ≐ t) and conflict m modeRW
+-- the next hold from place k on is not before r; and it is at k, if r is k
+pub record HoldFrom (s : Session) (k r : ℕ) : Type 0 where
+  pub passed : Passed (isHold s) k r
+  pub here : r ≡ k → s SlotMark k ≡ held
+
+-- the mode that conflicts with none
+abbrev pub modeRO : ℕ
+modeRO = 1
+
+-- a pre-slot that asks for a block in a mode that conflicts with some other
+abbrev pub isClaim : Slot → Formula
+isClaim p = not (p .payload ≐ 0) and not (p .mode ≐ modeRO)
+
+abbrev pub hasClaim : Session → ℕ → Formula
+hasClaim s t = some (s TaskSlots t) (λ j. isClaim (slotAt s (at t j)))
+
+-- pre-slot p asks for the block that slot q of another task holds, in conflict with it
+abbrev pub clash : Slot → Slot → Formula
+clash p q = q .payload ≐ p .payload and conflict (p .mode) (q .mode)
+
+-- pre-slot p of t asks for a block that another task holds since its creation, in conflict with it
+abbrev pub makerClash : Session → ℕ → Slot → Formula
+makerClash s t p =
+    not (p .payload ≐ 0) and s BlockHeld (p .payload) ≐ 1 and not (s BlockCreator (p .payload) ≐ t) and conflict (p .mode) modeRW
+
+abbrev pub makersClash : Session → ℕ → Formula
+makersClash s t = some (s TaskSlots t) (λ j. makerClash s t (slotAt s (at t j)))
 
 -- check 17, "A pre-slot's block is doomed or destroyed"
 abbrev pub blocksRemain : Session → ℕ → Formula

@@ -1,6 +1,6 @@
--- How far the scan of a grant has come: over the pre-slots, and for one of them over the places of slots.
-use Prim.Native.Nat.{ℕ, zero, suc, _+_, _*_, _/_, _%_, _≤_, _<_}
-use mathlib.Core.Path.{_≡_, refl, sym, ap, subst, _∙_}
+-- How far the scan of a grant has come: over the places of slots, and for one that holds over the pre-slots.
+use Prim.Native.Nat.{ℕ, zero, suc, _+_, _*_, _-_, _/_, _%_, _≤_, _<_}
+use mathlib.Core.Path.{_≡_, refl, ap, subst, _∙_}
 use mathlib.Core.List.{List, [], _∷_, _++_}
 use mathlib.Core.Logic.{_⊎_, inl, inr}
 use native.Mathlib.Omega.{arith}
@@ -9,16 +9,17 @@ use borrow.Author.Count.{below-more}
 use lib.ListN.{length, getD, length-append, List·getD-append}
 use lib.Seq.{getD-at}
 use Rattle.session.specs.Table.{Session, at}
-use Rattle.session.specs.declared.Field.the-variants.{Objects, TaskState, TaskSlots, SlotMode, SlotMark, SlotPayload}
-use Rattle.session.specs.Names.{granted, running, held}
+use Rattle.session.specs.declared.Field.the-variants.{Objects, TaskState, TaskSlots, SlotMode, SlotPayload}
+use Rattle.session.specs.Names.{resolved, granted, running}
 use Rattle.rules.specs.declared.Slot.{Slot}
 use Rattle.rules.specs.declared.Task.{Task}
-use Rattle.rules.specs.Formula.{Formula, holds, Formula._≐_}
-use Rattle.rules.specs.FormulaLaws.{Case, decide, Case.it-does, Case.it-does-not}
-use Rattle.rules.specs.Checks.{orNull, remains, slotFree}
+use Rattle.rules.specs.Formula.{Formula, holds, not, test, Formula._≐_}
+use Rattle.rules.specs.FormulaLaws.{Case, decide, failed, Case.it-does, Case.it-does-not}
+use Rattle.rules.specs.Reading.{conflict}
+use Rattle.rules.specs.Checks.{slotFree}
 use Rattle.rules.specs.Sound.{sound}
-use Rattle.checks.specs.SoundParts.{place-holder}
-use Rattle.checks.specs.Granting.{slotAt, taskAt, upTo, isOtherHolder, passedOver, clash, makerClash}
+use Rattle.checks.specs.SoundParts.{Hold, hold-at}
+use Rattle.checks.specs.Granting.{Passed, slotAt, taskAt, upTo, isHolder, isHold, modeRO, hasClaim, clash, makersClash, slotsFree}
 
 length-upTo : {A : Type 0} (n : ℕ) (f : ℕ → A) → length (upTo n f) ≡ n
 unfolding upTo
@@ -44,21 +45,13 @@ abbrev pub blank : Slot
 blank = record { mode = 0; mark = 0; payload = 0 }
 
 -- what a task's record says of its slots and of their number
-pub record-slot : (s : Session) (t : ℕ) (r : Task) → r ≡ taskAt s t → (j : ℕ) → j < 16 → getD (r .slots) j blank ≡ slotAt s t j
+pub record-slot : (s : Session) (t : ℕ) (r : Task) → r ≡ taskAt s t → (j : ℕ) → j < 16 → getD (r .slots) j blank ≡ slotAt s (at t j)
 unfolding taskAt
-record-slot s t r e j h = ap (λ (x : Task). getD (x .slots) j blank) e ∙ getD-upTo 16 (slotAt s t) blank j h
+record-slot s t r e j h = ap (λ (x : Task). getD (x .slots) j blank) e ∙ getD-upTo 16 (λ j. slotAt s (at t j)) blank j h
 
 pub record-count : (s : Session) (t : ℕ) (r : Task) → r ≡ taskAt s t → r .count ≡ s TaskSlots t
 unfolding taskAt
 record-count s t r e = ap (λ (x : Task). x .count) e
-
-pub slot-payload : (s : Session) (t j : ℕ) (p : Slot) → p ≡ slotAt s t j → p .payload ≡ s SlotPayload (at t j)
-unfolding slotAt
-slot-payload s t j p e = ap (λ (x : Slot). x .payload) e
-
-pub slot-mode : (s : Session) (t j : ℕ) (p : Slot) → p ≡ slotAt s t j → p .mode ≡ s SlotMode (at t j)
-unfolding slotAt
-slot-mode s t j p e = ap (λ (x : Slot). x .mode) e
 
 -- a formula holds at every place below j
 pub record Through (f : ℕ → Formula) (j : ℕ) : Type 0 where
@@ -73,73 +66,119 @@ through-none f = record { all = λ i h. absurd (none i h) }
 pub through-more : (f : ℕ → Formula) (j : ℕ) → Through f j → holds (f j) → Through f (j + 1)
 through-more f j r h = record { all = below-more (λ (i : ℕ). holds (f i)) j (r .all) h }
 
--- check 17 of one slot
-pub remains-slot : (s : Session) (t j : ℕ) (p : Slot) → p ≡ slotAt s t j → holds (orNull s (remains s) (p .payload)) → holds (orNull s (remains s) (s SlotPayload (at t j)))
-remains-slot s t j p e h = rw (slot-payload s t j p e) at h
+-- nothing is passed at the start, and then one more that the formula does not hold of
+pub pass-none : (f : ℕ → Formula) (a r : ℕ) → r ≡ a → Passed f a r
+pass-none f a r e = record { from = omega arith; none = λ i l h. absurd (less i l h) }
+  where
+    less : (i : ℕ) → i < r → a ≤ i → ⊥
+    less i l h = omega arith
 
-pub slot-remains : (s : Session) (t j : ℕ) (p : Slot) → p ≡ slotAt s t j → holds (orNull s (remains s) (s SlotPayload (at t j))) → holds (orNull s (remains s) (p .payload))
-slot-remains s t j p e h = rw (slot-payload s t j p e) h
+pub pass-more : (f : ℕ → Formula) (a r q : ℕ) → q ≡ r + 1 → Passed f a r → (holds (f r) → ⊥) → Passed f a q
+pass-more f a r q e p n =
+    rw e (record {
+      from = let l = p .from in omega arith;
+      none = below-more (λ (i : ℕ). a ≤ i → holds (f i) → ⊥) r (p .none) (λ h. n);
+    })
 
--- no hold of another task than t, at a place below k, is of block b and in conflict with mode m; and where k is not the first
--- of sixteen, its slots are another task's
-pub record Scanned (s : Session) (t b m k : ℕ) : Type 0 where
-  pub clear : (n : ℕ) → n < k → (n / 16 ≡ t → ⊥) → holds (clash s b m n) → ⊥
-  pub elsewhere : (k % 16 ≡ 0 → ⊥) → k / 16 ≡ t → ⊥
+-- so many in a row that the formula holds of none of
+pub pass-row : (f : ℕ → Formula) (a c : ℕ) → ((n : ℕ) → n < c → holds (f (a + n)) → ⊥) → Passed f a (a + c)
+pass-row f a c h =
+    record {
+      from = omega arith;
+      none = λ i l g x. let e : i ≡ a + (i - a) = omega arith in h (i - a) (omega arith) (subst (λ (n : ℕ). holds (f n)) e x);
+    }
 
-module _ (s : Session) (t b m : ℕ) where
-  pub scan-none : Scanned s t b m 0
-  scan-none = record { clear = λ n h. absurd (none n h); elsewhere = λ n. absurd (n refl) }
+-- whoever is passed over is no holder, so its slots hold nothing
+pub pass-holders : (s : Session) → holds (sound s) → (k m : ℕ) → k % 16 ≡ 0 → Passed (isHolder s) (k / 16) m → Passed (isHold s) k (16 * m)
+pass-holders s h k m z p =
+    record {
+      from = let l = p .from in omega arith;
+      none = λ i q l x. p .none (i / 16) (omega arith) (omega arith) (hold-at s h i (let y = x .0 in omega arith) (x .1) .owner);
+    }
+
+-- nor do the slots past a task's own
+pub pass-unused : (s : Session) → holds (sound s) → (k : ℕ) → s TaskSlots (k / 16) ≤ k % 16 → Passed (isHold s) k (16 * (k / 16 + 1))
+pass-unused s h k u =
+    record {
+      from = omega arith;
+      none = λ i q l x. past i q l (hold-at s h i (let y = x .0 in omega arith) (x .1) .used);
+    }
+  where
+    past : (i : ℕ) → i < 16 * (k / 16 + 1) → k ≤ i → i % 16 < s TaskSlots (i / 16) → ⊥
+    past i q l x =
+        let e : i / 16 ≡ k / 16 = omega arith in
+        let x′ : i % 16 < s TaskSlots (k / 16) = rw e at x in
+        omega arith
+
+-- no hold at a place below k conflicts with a pre-slot of t
+pub record Scanned (s : Session) (t k : ℕ) : Type 0 where
+  pub clear : (n : ℕ) → n < k → holds (isHold s n) → (j : ℕ) → j < s TaskSlots t → holds (clash (slotAt s (at t j)) (slotAt s n)) → ⊥
+
+module _ (s : Session) (t : ℕ) where
+  pub scan-none : Scanned s t 0
+  scan-none = record { clear = λ n h. absurd (none n h) }
     where
       none : (n : ℕ) → n < 0 → ⊥
       none n h = omega arith
 
-  -- whose slots are not passed over is another task
-  pub scan-owner : (k : ℕ) → Scanned s t b m k → (holds (passedOver s t k) → ⊥) → k / 16 ≡ t → ⊥
-  scan-owner k c n e = go (decide (k % 16 ≐ 0))
+  pub scan-over : (k r : ℕ) → Passed (isHold s) k r → Scanned s t k → Scanned s t r
+  scan-over k r p c = record { clear = λ n l h. go n l h (decLt n k) }
     where
-      go : Case (k % 16 ≐ 0) → ⊥
-      go (it-does z) = n (z, λ o. o .0 e)
-      go (it-does-not z) = c .elsewhere z e
+      go : (n : ℕ) → n < r → holds (isHold s n) → Dec (n < k) → (j : ℕ) → j < s TaskSlots t → holds (clash (slotAt s (at t j)) (slotAt s n)) → ⊥
+      go n l h (yes b) = c .clear n b h
+      go n l h (no b) = absurd (p .none n l (omega arith) h)
 
-  pub scan-more : (k : ℕ) → Scanned s t b m k → (holds (passedOver s t k) → ⊥) → (holds (clash s b m k) → ⊥) → Scanned s t b m (k + 1)
-  scan-more k c n h =
+  pub scan-more : (k j : ℕ) → Scanned s t k → s TaskSlots t ≤ j → Through (λ i. not (clash (slotAt s (at t i)) (slotAt s k))) j → Scanned s t (k + 1)
+  scan-more k j c l r =
       record {
-        clear = below-more (λ (n : ℕ). (n / 16 ≡ t → ⊥) → holds (clash s b m n) → ⊥) k (c .clear) (λ o x. h x);
-        elsewhere = λ z e. scan-owner k c n (omega arith);
+        clear = below-more (λ (n : ℕ). holds (isHold s n) → (j : ℕ) → j < s TaskSlots t → holds (clash (slotAt s (at t j)) (slotAt s n)) → ⊥) k (c .clear) (λ h i m. r .all i (omega arith));
       }
 
-  -- sixteen slots of t itself, or of somebody who holds nothing by them
-  pub scan-over : holds (sound s) → (k : ℕ) → k < 16 * (s Objects 0 + 1) → Scanned s t b m k → holds (passedOver s t k) → Scanned s t b m (k + 16)
-  scan-over h k l c p = record { clear = λ n q o x. go n q o x (decLt n k); elsewhere = λ z. absurd (z (let y = p .0 in omega arith)) }
+  -- a scan that found nothing
+  pub free-scanned : (k : ℕ) → 16 * (s Objects 0 + 1) ≤ k → Scanned s t k → (holds (makersClash s t) → ⊥) → holds (slotsFree s t)
+  unfolding slotAt
+  free-scanned k l c n j m = go (decide (s SlotPayload (at t j) ≐ 0))
     where
-      states : ℕ → Type 0
-      states i = (s TaskState i ≡ granted) ⊎ (s TaskState i ≡ running)
+      go : Case (s SlotPayload (at t j) ≐ 0) → holds (slotFree s t (at t j))
+      go (it-does z) = inl z
+      go (it-does-not z) =
+          inr ((λ x. c .clear (x .0) (let y = x .1 in omega arith) (x .1, x .2 .1 .0) j m (x .2 .1 .1)), λ x. n (j, m, (z, x)))
 
-      go : (n : ℕ) → n < k + 16 → (n / 16 ≡ t → ⊥) → holds (clash s b m n) → Dec (n < k) → ⊥
-      go n q o x (yes l) = c .clear n l o x
-      go n q o x (no f) =
-          let y = p .0 in
-          let e : n / 16 ≡ k / 16 = omega arith in
-          p .1 ((λ z. o (e ∙ z)), subst states e (place-holder s h n (omega arith) (x .0)))
+  -- a hold in conflict
+  pub taken-place : holds (sound s) → s TaskState t ≡ resolved → (k j : ℕ) → holds (isHold s k) → j < s TaskSlots t → holds (clash (slotAt s (at t j)) (slotAt s k)) → holds (slotsFree s t) → ⊥
+  unfolding slotAt
+  taken-place h r k j o m x f = go (f j m)
+    where
+      q : Hold s k
+      q = hold-at s h k (let y = o .0 in omega arith) (o .1)
 
--- a slot without a block is free
-pub free-null : (s : Session) (t j : ℕ) (p : Slot) → p ≡ slotAt s t j → p .payload ≡ 0 → holds (slotFree s t (at t j))
-free-null s t j p e z = inl (sym (slot-payload s t j p e) ∙ z)
+      other : (s TaskState (k / 16) ≡ granted) ⊎ (s TaskState (k / 16) ≡ running) → k / 16 ≡ t → ⊥
+      other (inl w) e = let r′ : s TaskState (k / 16) ≡ resolved = rw e r in omega arith
+      other (inr w) e = let r′ : s TaskState (k / 16) ≡ resolved = rw e r in omega arith
 
--- so is one for which the whole scan found nothing
-pub free-scanned : (s : Session) (t j k : ℕ) (p : Slot) → p ≡ slotAt s t j → 16 * (s Objects 0 + 1) ≤ k → Scanned s t (p .payload) (p .mode) k → (holds (makerClash s t (p .payload) (p .mode)) → ⊥) → holds (slotFree s t (at t j))
-free-scanned s t j k p e l c n =
-    let b = slot-payload s t j p e in
-    let m = slot-mode s t j p e in
-    let c′ : Scanned s t (s SlotPayload (at t j)) (s SlotMode (at t j)) k = rw (b, m) at c in
-    let n′ : holds (makerClash s t (s SlotPayload (at t j)) (s SlotMode (at t j))) → ⊥ = rw (b, m) at n in
-    inr ((λ x. c′ .clear (x .0) (let y = x .1 in omega arith) (x .2 .0) (x .2 .1)), n′)
+      go : holds (slotFree s t (at t j)) → ⊥
+      go (inl z) = let b = q .block in let e = x .0 in omega arith
+      go (inr z) = z .0 (k, o .0, (other (q .owner), (o .1, x)))
 
--- and one is not free where a hold conflicts
-pub taken-place : (s : Session) (t j k : ℕ) (p : Slot) → p ≡ slotAt s t j → (p .payload ≡ 0 → ⊥) → k < 16 * (s Objects 0 + 1) → (k / 16 ≡ t → ⊥) → holds (clash s (p .payload) (p .mode) k) → holds (slotFree s t (at t j)) → ⊥
-taken-place s t j k p e z l o h (inl x) = z (slot-payload s t j p e ∙ x)
-taken-place s t j k p e z l o h (inr x) = x .0 (k, l, (o, rw (slot-payload s t j p e, slot-mode s t j p e) at h))
+  pub taken-maker : holds (makersClash s t) → holds (slotsFree s t) → ⊥
+  unfolding slotAt
+  taken-maker (j, m, x) f = go (f j m)
+    where
+      go : holds (slotFree s t (at t j)) → ⊥
+      go (inl z) = x .0 z
+      go (inr z) = z .1 (x .1)
 
-pub taken-maker : (s : Session) (t j : ℕ) (p : Slot) → p ≡ slotAt s t j → (p .payload ≡ 0 → ⊥) → holds (makerClash s t (p .payload) (p .mode)) → holds (slotFree s t (at t j)) → ⊥
-taken-maker s t j p e z h (inl x) = z (slot-payload s t j p e ∙ x)
-taken-maker s t j p e z h (inr x) = x .1 (rw (slot-payload s t j p e, slot-mode s t j p e) at h)
+-- RO conflicts with no mode
+ro-conflicts : (a b : ℕ) → a ≡ modeRO → holds (conflict a b) → ⊥
+unfolding test
+ro-conflicts a b e h = failed (conflict modeRO b) refl (rw e at h)
+
+-- where no pre-slot claims a block, no hold is in the way
+pub free-unclaimed : (s : Session) (t : ℕ) → (holds (hasClaim s t) → ⊥) → holds (slotsFree s t)
+unfolding slotAt
+free-unclaimed s t n j m = go (decide (s SlotPayload (at t j) ≐ 0)) (decide (s SlotMode (at t j) ≐ modeRO))
+  where
+    go : Case (s SlotPayload (at t j) ≐ 0) → Case (s SlotMode (at t j) ≐ modeRO) → holds (slotFree s t (at t j))
+    go (it-does z) d = inl z
+    go (it-does-not z) (it-does o) = inr ((λ x. ro-conflicts _ _ o (x .2 .1 .1 .1)), λ x. ro-conflicts _ _ o (x .1 .1))
+    go (it-does-not z) (it-does-not o) = absurd (n (j, m, (z, o)))

@@ -1,10 +1,10 @@
 -- What a sound session says of its counts, and of who holds blocks by slots.
 use Prim.Native.Nat.{ℕ, _+_, _/_, _%_, _≤_, _<_}
-use mathlib.Core.Path.{_≡_, subst}
+use mathlib.Core.Path.{_≡_, subst, sym}
 use mathlib.Core.Logic.{_⊎_, inl, inr}
 use native.Mathlib.Omega.{arith}
 use Rattle.session.specs.Table.{Session}
-use Rattle.session.specs.declared.Field.the-variants.{Objects, Links, Kind, TaskState, TaskSlots, SlotMark}
+use Rattle.session.specs.declared.Field.the-variants.{Objects, Links, Kind, TaskState, TaskSlots, SlotMark, SlotPayload}
 use Rattle.session.specs.Names.{mostObjects, mostLinks, task, granted, running, held}
 use Rattle.rules.specs.Formula.{holds}
 use Rattle.rules.specs.Reading.{at, made}
@@ -46,14 +46,20 @@ or-null-low s o h (inr m) = made-low s o h m
 pub sound-few-slots : (s : Session) → holds (sound s) → (t : ℕ) → t ≤ s Objects 0 → s TaskSlots t ≤ 16
 sound-few-slots s h t l = few-slots s (sound-objects s h) t (omega arith)
 
--- who holds a block by a slot is granted or running
-pub holder : (s : Session) → holds (sound s) → (t j : ℕ) → t ≤ s Objects 0 → j < 16 → s SlotMark (at t j) ≡ held → (s TaskState t ≡ granted) ⊎ (s TaskState t ≡ running)
-holder s h t j l m e = go (sound-slots s h t (omega arith) j m)
-  where
-    go : holds (slot s t j) → (s TaskState t ≡ granted) ⊎ (s TaskState t ≡ running)
-    go (inl x) = sound-states s h t (omega arith) (x .0) .1 .1 j (x .1 .0) .1 e .1
-    go (inr x) = let z = x .1 .1 .0 in absurd (omega arith)
+-- what a sound session says of a slot that holds: whose it is, that it is one of its owner's, and that it has a block
+pub record Hold (s : Session) (k : ℕ) : Type 0 where
+  pub owner : (s TaskState (k / 16) ≡ granted) ⊎ (s TaskState (k / 16) ≡ running)
+  pub used : k % 16 < s TaskSlots (k / 16)
+  pub block : 1 ≤ s SlotPayload k
 
--- the same of a place of slots
-pub place-holder : (s : Session) → holds (sound s) → (k : ℕ) → k / 16 ≤ s Objects 0 → s SlotMark k ≡ held → (s TaskState (k / 16) ≡ granted) ⊎ (s TaskState (k / 16) ≡ running)
-place-holder s h k l e = holder s h (k / 16) (k % 16) l (place-low k) (subst (λ (i : ℕ). s SlotMark i ≡ held) (place-split k) e)
+pub hold-at : (s : Session) → holds (sound s) → (k : ℕ) → k / 16 ≤ s Objects 0 → s SlotMark k ≡ held → Hold s k
+hold-at s h k l e = go (sound-slots s h (k / 16) (omega arith) (k % 16) (place-low k))
+  where
+    e′ : s SlotMark (at (k / 16) (k % 16)) ≡ held
+    e′ = subst (λ (i : ℕ). s SlotMark i ≡ held) (place-split k) e
+
+    go : holds (slot s (k / 16) (k % 16)) → Hold s k
+    go (inl x) =
+        let r = sound-states s h (k / 16) (omega arith) (x .0) .1 .1 (k % 16) (x .1 .0) .1 e′ in
+        record { owner = r .1; used = x .1 .0; block = subst (λ (i : ℕ). 1 ≤ s SlotPayload i) (sym (place-split k)) (r .0) }
+    go (inr x) = let z = x .1 .1 .0 in let y = e′ in absurd (omega arith)

@@ -1,24 +1,26 @@
 // What a grant's checks look at: the task by value, and the holds of other tasks. Internal.
 use crate::fields::of;
+use crate::fields::of_slot;
 use crate::objects::remains_or_null;
 use rules::Slot;
 use rules::Task;
 use session::Field;
 use session::names;
 ghost use mathlib.Core.Path.{_≡_};
-ghost use Prim.Native.Nat.{_≤_, _<_};
+ghost use Prim.Native.Nat.{_+_, _*_, _≤_, _<_};
 ghost use lib.ListN.{length};
-ghost use Rattle.session.specs.Table.{read, words};
-ghost use Rattle.session.specs.declared.Field.the-variants.{Objects, TaskSlots};
-ghost use Rattle.rules.specs.Formula.{test, holds};
+ghost use Rattle.session.specs.Table.{read, words, at};
+ghost use Rattle.session.specs.declared.Field.the-variants.{Objects, TaskState, TaskSlots};
+ghost use Rattle.session.specs.Names.{resolved};
+ghost use Rattle.rules.specs.Formula.{test, holds, Formula.some};
 ghost use Rattle.rules.specs.Sound.{sound};
-ghost use Rattle.checks.specs.Granting.{slotAt, taskAt, isOtherHolder, passedOver, clash, makerClash, blocksRemain, slotsFree};
+ghost use Rattle.checks.specs.Granting.{Passed, HoldFrom, slotAt, taskAt, isHolder, isClaim, hasClaim, clash, makerClash, makersClash, blocksRemain, slotsFree};
 
-fn slot_at(s: &[u64], t: usize, j: usize) -> Slot
-    requires { ⌜ (words ≤ length (now s)) × (t ≤ 512) × (j < 16) ⌝ }
-    ensures { λ r. ⌜ r ≡ slotAt (read (now (s .entry))) t j ⌝ }
+// The slot at place i of the fields of slots.
+fn slot_at(s: &[u64], i: usize) -> Slot
+    requires { ⌜ (words ≤ length (now s)) × (i < 8208) ⌝ }
+    ensures { λ r. ⌜ r ≡ slotAt (read (now (s .entry))) i ⌝ }
 {
-    let i = t * 16 + j;
     Slot {
         mode: session::get(s, Field::SlotMode, i),
         mark: session::get(s, Field::SlotMark, i),
@@ -26,8 +28,15 @@ fn slot_at(s: &[u64], t: usize, j: usize) -> Slot
     }
 }
 
+fn slot_of(s: &[u64], t: usize, j: usize) -> Slot
+    requires { ⌜ (words ≤ length (now s)) × (t ≤ 512) × (j < 16) ⌝ }
+    ensures { λ r. ⌜ r ≡ slotAt (read (now (s .entry))) (at t j) ⌝ }
+{
+    slot_at(s, t * 16 + j)
+}
+
 // A task with its sixteen slots.
-pub fn task_at(s: &[u64], t: usize) -> Task
+fn task_at(s: &[u64], t: usize) -> Task
     requires { ⌜ (words ≤ length (now s)) × (t ≤ 512) ⌝ }
     ensures { λ r. ⌜ r ≡ taskAt (read (now (s .entry))) t ⌝ }
 {
@@ -38,7 +47,7 @@ pub fn task_at(s: &[u64], t: usize) -> Task
     }; 16];
     let mut j: usize = 0;
     while j < 16 {
-        slots[j] = slot_at(s, t, j);
+        slots[j] = slot_of(s, t, j);
         j += 1;
     }
     Task {
@@ -51,50 +60,115 @@ pub fn task_at(s: &[u64], t: usize) -> Task
     }
 }
 
-fn is_other_holder(s: &[u64], t: u64, h: u64) -> bool
-    requires { ⌜ words ≤ length (now s) ⌝ }
-    ensures { λ r. ⌜ r ≡ test (isOtherHolder (read (now (s .entry))) t h) ⌝ }
+// Whether h may hold blocks by its slots.
+fn is_holder(s: &[u64], h: usize) -> bool
+    requires { ⌜ (words ≤ length (now s)) × (h < 513) ⌝ }
+    ensures { λ r. ⌜ r ≡ test (isHolder (read (now (s .entry))) h) ⌝ }
 {
-    if h == t {
-        return false;
-    }
-    let state = of(s, Field::TaskState, h);
+    let state = session::get(s, Field::TaskState, h);
     if state == names::GRANTED {
         return true;
     }
     state == names::RUNNING
 }
 
-// Whether at place k begin the sixteen slots of t itself or of somebody who holds nothing by them.
-fn is_passed_over(s: &[u64], t: u64, k: usize) -> bool
-    requires { ⌜ words ≤ length (now s) ⌝ }
-    ensures { λ r. ⌜ r ≡ test (passedOver (read (now (s .entry))) t k) ⌝ }
+// Whether one of the eight handles from h on is a holder's. The bound of the loop is constant, so that the compiler makes
+// eight tests in a row of it.
+fn has_holder(s: &[u64], h: usize) -> bool
+    requires { ⌜ (words ≤ length (now s)) × (h ≤ 505) ⌝ }
+    ensures { λ r. ⌜ r ≡ test (some 8 (λ n. isHolder (read (now (s .entry))) (h + n))) ⌝ }
 {
-    if k % 16 != 0 {
-        return false;
+    let mut n: usize = 0;
+    while n < 8 {
+        if is_holder(s, h + n) {
+            return true;
+        }
+        n += 1;
     }
-    !is_other_holder(s, t, (k / 16) as u64)
+    false
 }
 
-// Whether the hold at place k conflicts with the slot's.
-fn clashes(s: &[u64], slot: Slot, k: usize) -> bool
-    requires { ⌜ (words ≤ length (now s)) × (k < 8208) ⌝ }
-    ensures { λ r. ⌜ r ≡ test (clash (read (now (s .entry))) (slot .payload) (slot .mode) k) ⌝ }
+// h, if it is a holder; else a handle further on, with no holder before it.
+fn next_holder(s: &[u64], h: usize) -> usize
+    requires { ⌜ (words ≤ length (now s)) × (h < 513) ⌝ }
+    ensures { λ r. ⌜ (r ≤ h + 8) × Passed (isHolder (read (now (s .entry)))) h r ⌝ }
 {
+    if h <= 505 {
+        if !has_holder(s, h) {
+            return h + 8;
+        }
+    }
+    if is_holder(s, h) {
+        return h;
+    }
+    h + 1
+}
+
+// Place k, if its slot holds a block; else a place further on, with no hold before it.
+fn next_hold(s: &[u64], k: usize) -> usize
+    requires { ⌜ (words ≤ length (now s)) × holds (sound (read (now s))) × (k < 16 * (read (now s) Objects 0 + 1)) ⌝ }
+    ensures { λ r. ⌜ HoldFrom (read (now (s .entry))) k r ⌝ }
+{
+    let h = k / 16;
+    let j = k % 16;
+    if j == 0 {
+        let m = next_holder(s, h);
+        if m != h {
+            return 16 * m;
+        }
+    }
+    if session::get(s, Field::TaskSlots, h) <= j as u64 {
+        return 16 * (h + 1);
+    }
     if session::get(s, Field::SlotMark, k) != names::HELD {
+        return k + 1;
+    }
+    k
+}
+
+// Whether a pre-slot asks for a block in a mode that conflicts with some other: RO does with none.
+fn is_claim(slot: Slot) -> bool
+    ensures { λ r. ⌜ r ≡ test (isClaim slot) ⌝ }
+{
+    if slot.payload == 0 {
         return false;
     }
-    if session::get(s, Field::SlotPayload, k) != slot.payload {
+    slot.mode != names::RO
+}
+
+fn has_claim(s: &[u64], t: u64) -> bool
+    requires { ⌜ (words ≤ length (now s)) × (t ≤ 512) × (read (now s) TaskSlots t ≤ 16) ⌝ }
+    ensures { λ r. ⌜ r ≡ test (hasClaim (read (now (s .entry))) t) ⌝ }
+{
+    let count = of(s, Field::TaskSlots, t);
+    let mut j: u64 = 0;
+    while j < count {
+        if is_claim(slot_of(s, t as usize, j as usize)) {
+            return true;
+        }
+        j += 1;
+    }
+    false
+}
+
+// Whether what the slot asks for conflicts with a hold of another task.
+fn clashes(slot: Slot, hold: Slot) -> bool
+    ensures { λ r. ⌜ r ≡ test (clash slot hold) ⌝ }
+{
+    if hold.payload != slot.payload {
         return false;
     }
-    rules::conflicts(slot.mode, session::get(s, Field::SlotMode, k))
+    rules::conflicts(slot.mode, hold.mode)
 }
 
 // Whether another task holds the slot's block since it made it, in conflict with the slot's mode.
 fn maker_clashes(s: &[u64], t: u64, slot: Slot) -> bool
     requires { ⌜ words ≤ length (now s) ⌝ }
-    ensures { λ r. ⌜ r ≡ test (makerClash (read (now (s .entry))) t (slot .payload) (slot .mode)) ⌝ }
+    ensures { λ r. ⌜ r ≡ test (makerClash (read (now (s .entry))) t slot) ⌝ }
 {
+    if slot.payload == 0 {
+        return false;
+    }
     if of(s, Field::BlockHeld, slot.payload) != 1 {
         return false;
     }
@@ -104,17 +178,30 @@ fn maker_clashes(s: &[u64], t: u64, slot: Slot) -> bool
     rules::conflicts(slot.mode, names::RW)
 }
 
-// Whether the block of each pre-slot remains: none is doomed or destroyed.
-pub fn blocks_remain(s: &[u64], t: u64, task: Task) -> bool
-    requires { ⌜ (words ≤ length (now s)) × (task ≡ taskAt (read (now s)) t) × (read (now s) TaskSlots t ≤ 16) ⌝ }
-    ensures { λ r. ⌜ r ≡ test (blocksRemain (read (now (s .entry))) t) ⌝ }
+fn makers_clash(s: &[u64], t: u64) -> bool
+    requires { ⌜ (words ≤ length (now s)) × (t ≤ 512) × (read (now s) TaskSlots t ≤ 16) ⌝ }
+    ensures { λ r. ⌜ r ≡ test (makersClash (read (now (s .entry))) t) ⌝ }
 {
-    let count = task.count;
+    let count = of(s, Field::TaskSlots, t);
     let mut j: u64 = 0;
     while j < count {
-        let i = j as usize;
-        let slot = task.slots[i];
-        if !remains_or_null(s, slot.payload) {
+        if maker_clashes(s, t, slot_of(s, t as usize, j as usize)) {
+            return true;
+        }
+        j += 1;
+    }
+    false
+}
+
+// Whether the block of each pre-slot remains: none is doomed or destroyed.
+pub fn blocks_remain(s: &[u64], t: u64) -> bool
+    requires { ⌜ words ≤ length (now s) ⌝ }
+    ensures { λ r. ⌜ r ≡ test (blocksRemain (read (now (s .entry))) t) ⌝ }
+{
+    let count = of(s, Field::TaskSlots, t);
+    let mut j: u64 = 0;
+    while j < count {
+        if !remains_or_null(s, of_slot(s, Field::SlotPayload, t, j)) {
             return false;
         }
         j += 1;
@@ -122,43 +209,43 @@ pub fn blocks_remain(s: &[u64], t: u64, task: Task) -> bool
     true
 }
 
-// Whether no hold of another task conflicts with what the pre-slots ask for: a scan over the pre-slots and, for each with a
-// block, over the places of slots, left at the first pair in conflict. Sixteen places of a task that holds nothing, or of
-// t itself, are passed over at once.
-pub fn is_free(s: &[u64], t: u64, task: Task) -> bool
+// Whether no hold of another task conflicts with what the pre-slots ask for: a scan over the holds by slots and, for each,
+// over the pre-slots, left at the first pair in conflict. A resolved task holds nothing, so every hold is another task's.
+pub fn is_free(s: &[u64], t: u64) -> bool
     requires { ⌜
-        (words ≤ length (now s)) × holds (sound (read (now s))) × (task ≡ taskAt (read (now s)) t) × (t ≤ read (now s) Objects 0)
+        (words ≤ length (now s)) × holds (sound (read (now s))) × (t ≤ read (now s) Objects 0) × (read (now s) TaskState t ≡ resolved)
         ⌝ }
     ensures { λ r. ⌜ r ≡ test (slotsFree (read (now (s .entry))) t) ⌝ }
 {
-    let end = 16 * (session::get(s, Field::Objects, 0) as usize + 1);
+    if !has_claim(s, t) {
+        return true;
+    }
+    if makers_clash(s, t) {
+        return false;
+    }
+    let task = task_at(s, t as usize);
     let count = task.count;
+    let end = 16 * (session::get(s, Field::Objects, 0) as usize + 1);
     let mut free = true;
-    let mut j: u64 = 0;
-    'slots: while j < count {
-        let i = j as usize;
-        let slot = task.slots[i];
-        if slot.payload == 0 {
-            j += 1;
+    let mut k: usize = 0;
+    'holds: while k < end {
+        let next = next_hold(s, k);
+        if next != k {
+            k = next;
             continue;
         }
-        if maker_clashes(s, t, slot) {
-            free = false;
-            break 'slots;
-        }
-        let mut k: usize = 0;
-        while k < end {
-            if is_passed_over(s, t, k) {
-                k += 16;
-                continue;
-            }
-            if clashes(s, slot, k) {
+        let hold = slot_at(s, k);
+        let mut j: u64 = 0;
+        while j < count {
+            let i = j as usize;
+            let slot = task.slots[i];
+            if clashes(slot, hold) {
                 free = false;
-                break 'slots;
+                break 'holds;
             }
-            k += 1;
+            j += 1;
         }
-        j += 1;
+        k += 1;
     }
     free
 }

@@ -18,7 +18,6 @@ use crate::fields::of;
 use crate::fields::state_of_link;
 use crate::granting::blocks_remain;
 use crate::granting::is_free;
-use crate::granting::task_at;
 use crate::holding::holds_block;
 use crate::objects::has_room;
 use crate::objects::has_slot;
@@ -301,11 +300,10 @@ pub fn grant_refusal(s: &[u64], t: u64) -> u64
     if of(s, Field::TaskState, t) != names::RESOLVED {
         return refusals::WRONG_STATE;
     }
-    let task = task_at(s, t as usize);
-    if !blocks_remain(s, t, task) {
+    if !blocks_remain(s, t) {
         return refusals::BLOCK_GONE;
     }
-    if !is_free(s, t, task) {
+    if !is_free(s, t) {
         return refusals::CONFLICTING_HOLD;
     }
     0

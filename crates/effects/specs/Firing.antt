@@ -1,15 +1,12 @@
 -- Firing one event is two words and a change of the links.
-use Prim.Native.Nat.{ℕ, _+_, _≤_, _<_}
+use Prim.Native.Nat.{ℕ, _+_, _-_, _≤_, _<_}
 use mathlib.Core.Path.{_≡_, refl, ap, sym, _∙_}
-use mathlib.Core.Bool.{Bool, true, false}
 use native.Mathlib.Omega.{arith}
-use lib.Dec.{ltb}
-use borrow.Author.Tests.{ltb-true, ltb-false}
 use Rattle.session.specs.Table.{Session, put, change, sweep}
 use Rattle.session.specs.TableLaws.{sweep-more, sweep-past, sweep-beside, sweep-change}
 use Rattle.session.specs.declared.Field.the-variants.{Links, EventState, EventPayload, LinkSource, LinkState}
 use Rattle.session.specs.Names.{fired, linkOpen, ready}
-use Rattle.rules.specs.Formula.{choose, Formula._≐_, Formula._and_}
+use Rattle.rules.specs.Formula.{Formula, holds, choose, Formula._≐_, Formula._and_, Formula.some}
 use Rattle.rules.specs.FormulaLaws.{choose-yes, choose-no}
 use Rattle.rules.specs.Effects.{fire, fireOne}
 use Rattle.effects.specs.Puts.{put-same, change-one, sweep-skip}
@@ -40,14 +37,16 @@ passed-none s e l r q = record { onward = omega arith; near = omega arith; other
     none : (i : ℕ) → l ≤ i → i < r → ⊥
     none i a b = omega arith
 
--- one more link that is not from e
-pub passed-more : {s : Session} {e l : ℕ} (k : ℕ) → k < 8 → Passed s e l (l + k) → (s LinkSource (l + k) ≡ e → ⊥) → Passed s e l (l + (k + 1))
-passed-more {s} {e} {l} k h p n =
-    record { onward = omega arith; near = omega arith; others = λ i a b. go i a (ltb i (l + k)) refl b }
+-- one of the eight links from l on is from e
+abbrev pub linkNear : Session → ℕ → ℕ → Formula
+linkNear s e l = some 8 (λ k. s LinkSource (l + k) ≐ e)
+
+pub passed-eight : (s : Session) (e l : ℕ) → (holds (linkNear s e l) → ⊥) → Passed s e l (l + 8)
+passed-eight s e l n =
+    record { onward = omega arith; near = omega arith; others = λ i a b q. n (i - l, omega arith, rw (back i a) q) }
   where
-    go : (i : ℕ) → l ≤ i → (b : Bool) → ltb i (l + k) ≡ b → i < l + (k + 1) → s LinkSource i ≡ e → ⊥
-    go i a true q b = p .others i a (ltb-true i (l + k) q)
-    go i a false q b = let w : i ≡ l + k = omega (arith, ltb-false i (l + k) q) in rw w n
+    back : (i : ℕ) → l ≤ i → l + (i - l) ≡ i
+    back i a = omega arith
 
 module _ (s : Session) (e v : ℕ) where
   -- an open link of e has the state v

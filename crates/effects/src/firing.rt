@@ -6,11 +6,27 @@ ghost use lib.ListN.{length};
 ghost use Rattle.session.specs.Table.{Wrote, read, put, words};
 ghost use Rattle.session.specs.declared.Field.the-variants.{Links, LinkState};
 ghost use Rattle.rules.specs.Effects.{fireOne};
-ghost use Rattle.effects.specs.Firing.{linkSet, openLinksSet, NoMoreLinks, Passed};
+ghost use Rattle.rules.specs.Formula.{test};
+ghost use Rattle.effects.specs.Firing.{linkSet, openLinksSet, NoMoreLinks, linkNear, Passed};
 
-// The first link from l on that is from event e; l + 8 where none of eight is. Near the last place, where eight more may not
-// be there, it is l. The bound is constant, so that the eight tests stand in a row. Internal: callers have shown the length
-// and the link.
+// Whether one of the eight links from l on is from event e. The bound is constant, so that the eight tests stand in a row.
+// Internal: callers have shown the length and the links.
+fn has_link(s: &[u64], e: u64, l: usize) -> bool
+    requires { ⌜ (words ≤ length (now s)) × (l ≤ 2041) ⌝ }
+    ensures { λ r. ⌜ r ≡ test (linkNear (read (now (s .entry))) e l) ⌝ }
+{
+    let mut k: usize = 0;
+    while k < 8 {
+        if session::get(s, Field::LinkSource, l + k) == e {
+            return true;
+        }
+        k += 1;
+    }
+    false
+}
+
+// l + 8 where eight links from l on are there and none is from event e, else l. Internal: callers have shown the length and
+// the link.
 fn past_others(s: &[u64], e: u64, l: usize) -> usize
     requires { ⌜ (words ≤ length (now s)) × (l < 2049) ⌝ }
     ensures { λ r. ⌜ Passed (read (now (s .entry))) e l r ⌝ }
@@ -18,12 +34,8 @@ fn past_others(s: &[u64], e: u64, l: usize) -> usize
     if 2041 < l {
         return l;
     }
-    let mut k: usize = 0;
-    while k < 8 {
-        if session::get(s, Field::LinkSource, l + k) == e {
-            return l + k;
-        }
-        k += 1;
+    if has_link(s, e, l) {
+        return l;
     }
     l + 8
 }

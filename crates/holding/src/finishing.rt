@@ -17,25 +17,25 @@ ghost use Rattle.holding.specs.Tidy.{Tidy};
 ghost use Rattle.holding.specs.Finish.{waits, NoneFinish, finishing, fireRow, statesFired, readyRow, linksReady, Within, someMarked};
 ghost use Rattle.holding.specs.Climb.{OnlyAbove, doneCreator};
 
-// Whether e is an open output event of an ended finish task. Internal: callers have shown the length and the handle.
+// Whether e is an open output event of an ended finish task; that few tasks have ended is looked at first. Internal: callers have shown the length and the handle.
 fn is_waiting(s: &[u64], e: u64) -> bool
     requires { ⌜ (words ≤ length (now s)) × (1 ≤ e) × (e ≤ 512) ⌝ }
     ensures { λ r. ⌜ r ≡ test (waits (read (now (s .entry))) e) ⌝ }
 {
-    if session::get(s, Field::Kind, e as usize) != names::EVENT {
+    let t = (e - 1) as usize;
+    if session::get(s, Field::TaskState, t) != names::ENDED {
         return false;
     }
-    if session::get(s, Field::EventType, e as usize) != names::OUTPUT {
+    if session::get(s, Field::TaskFinish, t) != 1 {
         return false;
     }
     if session::get(s, Field::EventState, e as usize) != names::OPEN {
         return false;
     }
-    let t = (e - 1) as usize;
-    if session::get(s, Field::TaskFinish, t) != 1 {
+    if session::get(s, Field::Kind, e as usize) != names::EVENT {
         return false;
     }
-    if session::get(s, Field::TaskState, t) != names::ENDED {
+    if session::get(s, Field::EventType, e as usize) != names::OUTPUT {
         return false;
     }
     true
@@ -121,9 +121,9 @@ fn ready_marked(s: &mut [u64], fires: &[u64], l: u64)
         Wrote (now (s .entry)) (now (s .exit)) (put (read (now (s .entry))) LinkState l (readyRow (now (fires .entry)) l (row (read (now (s .entry))) l)))
         ⌝ }
 {
-    if session::get(s, Field::LinkState, l as usize) == names::LINK_OPEN {
-        let e = session::get(s, Field::LinkSource, l as usize) as usize;
-        if fires[e] == 1 {
+    let e = session::get(s, Field::LinkSource, l as usize) as usize;
+    if fires[e] == 1 {
+        if session::get(s, Field::LinkState, l as usize) == names::LINK_OPEN {
             session::set(s, Field::LinkState, l as usize, names::READY);
         }
     }

@@ -1,9 +1,10 @@
 -- Lines memory that is large enough for its sheet is never full: no run over it ends by 1, and the last line has its room. Each
--- record that is run takes two bytes of the sheet at least, and its line 32 at most: so 16 bytes of lines for each byte of the
--- sheet are enough, with two lines more, for the record that ends the sheet and for the last line.
-use Prim.Native.Nat.{ℕ, zero, suc, _+_, _*_, _-_, _^_, _≤_, _<_}
+-- record that is run takes a byte of the sheet for its code and one for each field at least. With one field nothing is made, and
+-- its line takes 11 bytes at most; any other line takes 14. So 11 bytes of lines for two bytes of the sheet are enough, with room
+-- for two lines more: of the record that ends the sheet, and the last line.
+use Prim.Native.Nat.{ℕ, zero, suc, _+_, _*_, _-_, _≤_, _<_}
 use mathlib.Core.List.{List, [], _∷_}
-use mathlib.Core.Path.{_≡_, refl, sym, _∙_}
+use mathlib.Core.Path.{_≡_, refl, ap, sym, _∙_}
 use native.Mathlib.Omega.{arith}
 use lib.Dec.{lit<}
 use lib.ListN.{length}
@@ -12,7 +13,7 @@ use Rattle.number.specs.Number.{limit32, readAt}
 use Rattle.number.specs.Laws.{value-next}
 use Rattle.number.specs.Splice.{splice-length}
 use Rattle.lines.specs.Line.{line}
-use Rattle.lines.specs.LineLaws.{line-short}
+use Rattle.lines.specs.LineLaws.{digits-bound, line-length}
 use Rattle.session.specs.Table.{Session, words}
 use Rattle.rules.specs.Arity.{isCode}
 use Rattle.rules.specs.Checks.{Check, refusal}
@@ -22,14 +23,14 @@ use Rattle.rules.specs.Sound.{sound}
 use Rattle.rules.specs.Step.{step}
 use Rattle.record.specs.Reading.{place, fieldCount, codeAt, firstField, countAt, recordChecks, recordAt}
 use Rattle.record.specs.Refusals.{number-none, answered-number}
-use Rattle.record.specs.Fields.{AllRead, fields-onward}
+use Rattle.record.specs.Fields.{AllRead, place-none}
 use Rattle.record.specs.Cases.{accepted}
 use Rattle.record.specs.Laws.{record-forward, record-refusals}
 use Rattle.record.specs.Sheet.{headRefusal, headChecks, firstRecord}
 use Rattle.sheet.specs.declared.Ended.{Ended}
 use Rattle.sheet.specs.Run.{Lines, hasRoom, withLine, Run, ended, endedBy, runFrom, runSheet}
 use Rattle.sheet.specs.RunLaws.{run-end, run-unsound, run-refused, run-on, sheet-unsound, sheet-refused, sheet-runs}
-use Rattle.sheet.specs.Replies.{reply-small}
+use Rattle.sheet.specs.Replies.{reply-small, reply-nothing}
 use Rattle.sheet.specs.Going.{linesOf, Ends}
 use Rattle.sheet.specs.Whole.{Ran, head-small}
 use Rattle.sheet.specs.Closing.{withLast, closed, closed-room}
@@ -39,25 +40,29 @@ pub record Closable (r : Run) : Type 0 where
   pub not-full : r .ending ≡ 1 → ⊥
   pub room : holds (hasRoom (r .lines))
 
--- Every operation has a field, so that a record takes two bytes at least.
+-- every operation has a field
 fields-some : (code : ℕ) → holds (isCode code) → 1 ≤ fieldCount code
 unfolding test
 fields-some code h = passed (each 13 (λ c. 1 ≼ c then 1 ≼ fieldCount c)) refl code (omega arith) (h .0)
 
-fields-take : (bytes : List ℕ) (first n : ℕ) → 1 ≤ n → first ≤ length bytes → AllRead bytes first n → first < place bytes first n
-fields-take bytes first zero h l all = absurd (omega arith)
-fields-take bytes first (suc n) h l all =
-    let o = fields-onward bytes first n l (λ k p. all k (omega arith)) in
+fields-take : (bytes : List ℕ) (first n : ℕ) → AllRead bytes first n → first + n ≤ place bytes first n
+fields-take bytes first zero all = let z = place-none bytes first in omega arith
+fields-take bytes first (suc n) all =
+    let o = fields-take bytes first n (λ k p. all k (omega arith)) in
     let v = value-next limit32 bytes (place bytes first n) _ _ (all n (omega arith)) in
-    omega (arith, o .onward, v .1)
+    omega (arith, o, v .1)
 
-two-bytes : (bytes : List ℕ) (at : ℕ) → recordAt bytes at .refused ≡ 0 → at + 2 ≤ recordAt bytes at .next
-two-bytes bytes at e =
+-- a record takes a byte for its code and one for each field at least
+record-takes : (bytes : List ℕ) (at : ℕ) → recordAt bytes at .refused ≡ 0 → at + (1 + countAt bytes at) ≤ recordAt bytes at .next
+record-takes bytes at e =
     let r = accepted bytes at e in
     let head = value-next limit32 bytes at (codeAt bytes at) (firstField bytes at) (r .code-read) in
-    let on = fields-take bytes (firstField bytes at) (countAt bytes at) (fields-some (codeAt bytes at) (r .known)) (head .2) (r .fields) in
-    let two : at + 2 ≤ place bytes (firstField bytes at) (countAt bytes at) = omega (arith, head .1, on) in
-    rw (r .says) two
+    let on = fields-take bytes (firstField bytes at) (countAt bytes at) (r .fields) in
+    let all : at + (1 + countAt bytes at) ≤ place bytes (firstField bytes at) (countAt bytes at) = omega (arith, head .1, on) in
+    rw (r .says) all
+
+record-code : (bytes : List ℕ) (at : ℕ) → recordAt bytes at .refused ≡ 0 → recordAt bytes at .operation .code ≡ codeAt bytes at
+record-code bytes at e = rw (accepted bytes at e .says) refl
 
 -- checks that do not have this number refuse by another
 abbrev Others : ℕ → List Check → Type 0
@@ -86,18 +91,25 @@ head-not-full sheet = refusal-other 1 (headChecks sheet) (lit< tt) (λ x. omega 
 head-inside : (sheet : List ℕ) → headRefusal sheet ≡ 0 → firstRecord sheet ≤ length sheet
 head-inside sheet z = value-next limit32 sheet 0 _ (firstRecord sheet) (number-none _ 0 (readAt limit32 sheet 0) z .0) .2
 
-module _ (l : Lines) (a b c : ℕ) (room : holds (hasRoom l)) (ha : a < 2 ^ 64) (hb : b < 100) (hc : c < 10000) where
-  -- a line takes 32 bytes at most, and the memory keeps its length
-  line-used : withLine l a b c .used ≤ l .used + 32
+module _ (l : Lines) (a b c : ℕ) (room : holds (hasRoom l)) (ha : a < 100000) (hb : b < 100) (hc : c < 10000) where
+  line-small : length (line a b c) ≤ 14
+  line-small = omega (arith, line-length a b c, digits-bound 4 a ha, digits-bound 1 b hb, digits-bound 3 c hc)
+
+  -- a line takes 14 bytes at most, 11 if nothing was made, and the memory keeps its length
+  line-used : withLine l a b c .used ≤ l .used + 14
   unfolding withLine
-  line-used = omega (arith, line-short a b c ha hb hc)
+  line-used = omega (arith, line-small)
+
+  line-less : c ≡ 0 → withLine l a b c .used ≤ l .used + 11
+  unfolding withLine
+  line-less z = omega (arith, line-length a b c, digits-bound 4 a ha, digits-bound 1 b hb, digits-bound 0 c (omega arith))
 
   line-kept : length (withLine l a b c .bytes) ≡ length (l .bytes)
   unfolding withLine
-  line-kept = splice-length (l .bytes) (l .used) (line a b c) (omega (arith, line-short a b c ha hb hc))
+  line-kept = splice-length (l .bytes) (l .used) (line a b c) (omega (arith, line-small))
 
 -- the line that ends a sheet leaves room for the last one
-closable-by : (s : Session) (l : Lines) (k n : ℕ) → l .used + 64 ≤ length (l .bytes) → k < 2 ^ 64 → n < 100 → (n ≡ 1 → ⊥) → Closable (endedBy s l k n)
+closable-by : (s : Session) (l : Lines) (k n : ℕ) → l .used + 64 ≤ length (l .bytes) → k < 100000 → n < 100 → (n ≡ 1 → ⊥) → Closable (endedBy s l k n)
 unfolding endedBy
 closable-by s l k n h hk hn f =
     let u = line-used l k n 0 (omega arith) hk hn (lit< tt) in
@@ -106,23 +118,45 @@ closable-by s l k n h hk hn f =
 
 -- What is needed before the record at a place.
 pub record Spare (sheet : List ℕ) (at k : ℕ) (l : Lines) : Type 0 where
-  pub small : length sheet < 2 ^ 64
+  pub small : length sheet < 100000
   pub count : k ≤ at
   pub inside : at ≤ length sheet
-  pub bytes : l .used + 16 * (length sheet - at) + 64 ≤ length (l .bytes)
+  pub bytes : 2 * l .used + 11 * (length sheet - at) + 128 ≤ 2 * length (l .bytes)
 
 -- and it is there before the next one
 spare-on : (sheet : List ℕ) (at k : ℕ) (s : Session) (l : Lines) → Spare sheet at k l → at < length sheet → holds (sound s) → recordAt sheet at .refused ≡ 0
     → Spare sheet (recordAt sheet at .next) (k + 1) (withLine l (k + 1) (step s (recordAt sheet at .operation) .refused) (step s (recordAt sheet at .operation) .made))
 spare-on sheet at k s l g b is z =
     let op = recordAt sheet at .operation in
-    let small = reply-small s op is in
-    let two = two-bytes sheet at z in
-    let low : k + 1 < 2 ^ 64 = omega arith in
-    let u = line-used l (k + 1) (step s op .refused) (step s op .made) (omega (arith, g .bytes)) low (small .0) (small .1) in
-    let e = line-kept l (k + 1) (step s op .refused) (step s op .made) (omega (arith, g .bytes)) low (small .0) (small .1) in
+    let takes = record-takes sheet at z in
+    let e = line-kept l (k + 1) (step s op .refused) (step s op .made) room low (small .0) (small .1) in
     let inside = record-forward sheet at z .inside in
-    record { small = g .small; count = omega (arith, g .count); inside = inside; bytes = omega (arith, g .bytes) }
+    record { small = g .small; count = omega (arith, g .count, takes); inside = inside; bytes = go (decide (countAt sheet at ≐ 1)) e inside }
+  where
+    room : holds (hasRoom l)
+    room = omega (arith, g .bytes)
+
+    low : k + 1 < 100000
+    low = omega (arith, g .count, g .small)
+
+    small : (step s (recordAt sheet at .operation) .refused < 100) × (step s (recordAt sheet at .operation) .made < 10000)
+    small = reply-small s (recordAt sheet at .operation) is
+
+    after : Lines
+    after = withLine l (k + 1) (step s (recordAt sheet at .operation) .refused) (step s (recordAt sheet at .operation) .made)
+
+    go : Case (countAt sheet at ≐ 1) → length (after .bytes) ≡ length (l .bytes) → recordAt sheet at .next ≤ length sheet
+        → 2 * after .used + 11 * (length sheet - recordAt sheet at .next) + 128 ≤ 2 * length (after .bytes)
+    go (it-does one) e inside =
+        let takes = record-takes sheet at z in
+        let none = reply-nothing s (recordAt sheet at .operation) (ap fieldCount (record-code sheet at z) ∙ one) in
+        let u = line-less l (k + 1) (step s (recordAt sheet at .operation) .refused) (step s (recordAt sheet at .operation) .made) room low (small .0) (small .1) none in
+        omega (arith, g .bytes)
+    go (it-does-not more) e inside =
+        let takes = record-takes sheet at z in
+        let some = fields-some (codeAt sheet at) (accepted sheet at z .known) in
+        let u = line-used l (k + 1) (step s (recordAt sheet at .operation) .refused) (step s (recordAt sheet at .operation) .made) room low (small .0) (small .1) in
+        omega (arith, g .bytes)
 
 -- the case of no steps
 run-none : (sheet : List ℕ) (at k : ℕ) (s : Session) (l : Lines) → runFrom sheet zero at k s l ≡ ended s l k 0
@@ -158,8 +192,8 @@ run-closable sheet (suc n) at k s l g = ends (decide (length sheet ≼ at)) (run
         below : (length sheet ≤ at → ⊥) → at < length sheet
         below f = omega arith
 
--- The theorem, for any session: 16 bytes for each byte of the sheet and 64 more are enough.
-pub never-full : (sheet : List ℕ) (s : Session) (l : Lines) → length sheet < 2 ^ 64 → l .used + 16 * length sheet + 64 ≤ length (l .bytes)
+-- The theorem, for any session: 11 bytes for two bytes of the sheet and 64 more are enough.
+pub never-full : (sheet : List ℕ) (s : Session) (l : Lines) → length sheet < 100000 → 2 * l .used + 11 * length sheet + 128 ≤ 2 * length (l .bytes)
     → Closable (runSheet sheet s l)
 never-full sheet s l small h = sounds (decide (sound s))
   where
@@ -179,11 +213,11 @@ never-full sheet s l small h = sounds (decide (sound s))
     sounds (it-does-not f) = rw (sheet-unsound sheet s l room f) (closable-by s l 0 2 (omega arith) (lit< tt) (lit< tt) (λ e. omega arith))
     sounds (it-does i) = heads i (decide (headRefusal sheet ≐ 0))
 
--- The sheet program reads 32,768 bytes at most and lends 524,800 for the lines, of which none is used, and memory for a session:
+-- The sheet program reads 32,768 bytes at most and lends 180,288 for the lines, of which none is used, and memory for a session:
 -- its run "never meets 1", and its last line is written.
 pub never-meets-1 : (sheet before after lines lines′ : List ℕ) (e : Ended) (s : Session)
     → length sheet ≤ 32768
-    → 524800 ≤ length lines
+    → 180288 ≤ length lines
     → words ≤ length before
     → Ran sheet before after lines lines′ 0 e s
     → (e .ending ≡ 1 → ⊥) × (closed after (linesOf lines′ (e .used)) ≡ withLast after (linesOf lines′ (e .used)))

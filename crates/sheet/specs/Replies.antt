@@ -1,7 +1,7 @@
 -- The numbers of a reply are small, so that its line takes less than the 32 bytes that check 1 asks for.
 use Prim.Native.Nat.{ℕ, zero, suc, _+_, _≤_, _<_}
 use mathlib.Core.List.{List, [], _∷_}
-use mathlib.Core.Path.{ap}
+use mathlib.Core.Path.{_≡_, ap, _∙_}
 use mathlib.Core.Bool.{Bool, true, false}
 use native.Mathlib.Omega.{arith}
 use lib.Dec.{T, leb, leb→le}
@@ -14,6 +14,7 @@ use Rattle.rules.specs.FormulaLaws.{Case, decide, choose-yes, choose-no, Case.i
 use Rattle.rules.specs.Checks.{Check, refusal, makesLink}
 use Rattle.rules.specs.Sound.{sound}
 use Rattle.rules.specs.Step.{arg, Rule, Reply, rules, answer, outcome, step}
+use Rattle.record.specs.Reading.{fieldCount}
 use Rattle.record.specs.Refusals.{UpTo, refusal-most}
 use Rattle.laws.specs.Cases.{Accepted, Called, called, step-sound, Called.refused, Called.accepted, Accepted.by-template, Accepted.by-task, Accepted.by-event, Accepted.by-block, Accepted.by-dependence, Accepted.by-satisfaction, Accepted.by-release, Accepted.by-destroy, Accepted.by-delivery, Accepted.by-grant, Accepted.by-start, Accepted.by-end}
 
@@ -85,3 +86,25 @@ reply-small s o h = (rw (ap (λ (r : Reply). r .refused) (step-sound s o h)) (le
     go : Called s o → step s o .made < 10000
     go (refused n w e) = rw w (omega arith)
     go (accepted i n w e a) = rw w (let b = made-small s o a in omega arith)
+
+-- an operation with one field makes nothing
+made-nothing : (s : Session) (o : Operation) → Accepted s o → fieldCount (o .code) ≡ 1 → outcome s o ≡ 0
+made-nothing s o (by-template c m a w) e = let z : fieldCount 1 ≡ 1 = rw c at e in absurd (omega arith)
+made-nothing s o (by-task c m a w) e = let z : fieldCount 2 ≡ 1 = rw c at e in absurd (omega arith)
+made-nothing s o (by-event c m a w) e = let z : fieldCount 3 ≡ 1 = rw c at e in absurd (omega arith)
+made-nothing s o (by-block c m a w) e = let z : fieldCount 4 ≡ 1 = rw c at e in absurd (omega arith)
+made-nothing s o (by-dependence c m a w) e = let z : fieldCount 5 ≡ 1 = rw c at e in absurd (omega arith)
+made-nothing s o (by-satisfaction c m a w) e = w
+made-nothing s o (by-release c m a w) e = w
+made-nothing s o (by-destroy c m a w) e = w
+made-nothing s o (by-delivery c m a w) e = w
+made-nothing s o (by-grant c m a w) e = w
+made-nothing s o (by-start c m a w) e = w
+made-nothing s o (by-end c m a w) e = w
+
+pub reply-nothing : (s : Session) (o : Operation) → fieldCount (o .code) ≡ 1 → step s o .made ≡ 0
+reply-nothing s o e = go (called s o)
+  where
+    go : Called s o → step s o .made ≡ 0
+    go (refused n w q) = w
+    go (accepted i n w q a) = w ∙ made-nothing s o a e

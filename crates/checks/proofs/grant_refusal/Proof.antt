@@ -1,5 +1,4 @@
 use Rattle.checks.specs.RefusalLaws.{Left, done, skip, stop, stops}
-use Rattle.checks.specs.SoundParts.{few-objects, sound-few-slots}
 use Rattle.checks.specs.TestLaws.{no, no-not, yes, yes-not}
 use Rattle.rules.specs.Checks.{Check, grantChecks}
 use Rattle.rules.specs.Reading.{made}
@@ -27,12 +26,12 @@ past-11 c = past-10 (c .before .before) ∙ skip _ _ _ (no _ (c .before .is-gone
 past-16 : (c : tie.Else4) → Left (asked (c .before .before .before .before .before .before .before .before .before)) 4
 past-16 c = past-11 (c .before .before) ∙ skip _ _ _ (sym (c .before .of .ensures) ∙ c .if4 .left)
 
-past-17 : (c : tie.Else5) → Left (asked (c .before .before .before .before .before .before .before .before .before .before .before .before)) 5
+past-17 : (c : tie.Else5) → Left (asked (c .before .before .before .before .before .before .before .before .before .before .before)) 5
 past-17 c =
-    past-16 (c .before .before .before) ∙
+    past-16 (c .before .before) ∙
     skip _ _ _ (yes-not _ (c .before .blocks-remain .ensures) (c .if5 .left))
 
-past-18 : (c : tie.Else6) → Left (asked (c .before .before .before .before .before .before .before .before .before .before .before .before .before .before)) 6
+past-18 : (c : tie.Else6) → Left (asked (c .before .before .before .before .before .before .before .before .before .before .before .before .before)) 6
 past-18 c = past-17 (c .before .before) ∙ skip _ _ _ (yes-not _ (c .before .is-free .ensures) (c .if6 .left))
 
 is-made-requires : tie.Need-is-made-requires
@@ -59,33 +58,20 @@ of-requires c κs = search needs
 returns-4 : tie.Need-returns-4
 returns-4 c = stops _ _ _ (past-11 (c .before .before)) (λ x. c .if4 .taken (c .before .of .ensures ∙ x))
 
-task-at-requires : tie.Need-task-at-requires
-task-at-requires c κs =
-    let m = c .before .before .before .before .before .before in
-    let a = m .before .before .before in
-    let few = few-objects _ (a .pre .1) in
-    let made = yes-not _ (m .before .is-made .ensures) (m .if1 .left) in
-    omega arith
-
 blocks-remain-requires : tie.Need-blocks-remain-requires
-blocks-remain-requires c κs =
-    let m = c .before .before .before .before .before .before .before in
-    let a = m .before .before .before in
-    let few = few-objects _ (a .pre .1) in
-    let made = yes-not _ (m .before .is-made .ensures) (m .if1 .left) in
-    (omega arith, c .task-at .ensures, sound-few-slots _ (a .pre .1) _ (omega arith))
+blocks-remain-requires c κs = search needs
 
 returns-5 : tie.Need-returns-5
 returns-5 c =
-    stops _ _ _ (past-16 (c .before .before .before)) (no-not _ (c .before .blocks-remain .ensures) (c .if5 .taken))
+    stops _ _ _ (past-16 (c .before .before)) (no-not _ (c .before .blocks-remain .ensures) (c .if5 .taken))
 
 is-free-requires : tie.Need-is-free-requires
 is-free-requires c κs =
-    let m = c .before .before .before .before .before .before .before .before .before in
+    let r = c .before .before in
+    let m = r .before .before .before .before .before .before in
     let a = m .before .before .before in
-    let few = few-objects _ (a .pre .1) in
     let made = yes-not _ (m .before .is-made .ensures) (m .if1 .left) in
-    (omega arith, a .pre .1, c .before .before .task-at .ensures, omega arith)
+    (omega arith, a .pre .1, omega arith, sym (r .before .of .ensures) ∙ r .if4 .left)
 
 returns-6 : tie.Need-returns-6
 returns-6 c = stops _ _ _ (past-17 (c .before .before)) (no-not _ (c .before .is-free .ensures) (c .if6 .taken))
@@ -105,7 +91,6 @@ grant-refusal-spec =
     returns-3
     of-requires
     returns-4
-    task-at-requires
     blocks-remain-requires
     returns-5
     is-free-requires

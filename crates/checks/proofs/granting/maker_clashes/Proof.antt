@@ -5,25 +5,29 @@ use native.Mathlib.Omega.{arith}
 use Rattle.checks.proofs.granting.maker_clashes.Statement.{statement}
 use Rattle.checks.proofs.granting.maker_clashes.Tie as tie
 
+returns : tie.Need-returns
+returns c = wrong _ (λ x. x .0 (c .if1 .taken))
+
 of-requires : tie.Need-of-requires
 of-requires c κs = search needs
 
-returns : tie.Need-returns
-returns c = wrong _ (λ x. omega arith)
+returns-2 : tie.Need-returns-2
+returns-2 c = wrong _ (λ x. omega arith)
 
 of-requires-2 : tie.Need-of-requires-2
 of-requires-2 c κs = search needs
 
-returns-2 : tie.Need-returns-2
-returns-2 c = wrong _ (λ x. x .1 .0 (sym (c .before .of2 .ensures) ∙ c .if2 .taken))
+returns-3 : tie.Need-returns-3
+returns-3 c = wrong _ (λ x. x .1 .1 .0 (sym (c .before .of2 .ensures) ∙ c .if3 .taken))
 
 conflicts-requires : tie.Need-conflicts-requires
 conflicts-requires c κs = search needs
 
-returns-3 : tie.Need-returns-3
-returns-3 c =
-    after _ _ (omega arith) (after _ _ (λ x. c .before .if2 .left (c .before .before .of2 .ensures ∙ x)) (c .conflicts .ensures))
+returns-4 : tie.Need-returns-4
+returns-4 c =
+    let b = c .before .before .before .before .before .if1 in
+    after _ _ (b .left) (after _ _ (omega arith) (after _ _ (λ x. c .before .if3 .left (c .before .before .of2 .ensures ∙ x)) (c .conflicts .ensures)))
 
 pub maker-clashes-spec : {M : Type 1} → statement M
 maker-clashes-spec =
-    tie.close (tie.spec of-requires returns of-requires-2 returns-2 conflicts-requires returns-3)
+    tie.close (tie.spec returns of-requires returns-2 of-requires-2 returns-3 conflicts-requires returns-4)

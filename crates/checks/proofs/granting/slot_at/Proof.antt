@@ -3,12 +3,6 @@ use borrow.Author.Needs.{needs}
 use Rattle.checks.proofs.granting.slot_at.Statement.{statement}
 use Rattle.checks.proofs.granting.slot_at.Tie as tie
 
-mul-i : tie.Need-mul-i
-mul-i c = search needs
-
-add-i : tie.Need-add-i
-add-i c = search needs
-
 get-requires : tie.Need-get-requires
 get-requires c κs = search needs
 
@@ -23,4 +17,4 @@ unfolding slotAt
 returns c = rw (c .before .before .get .ensures, c .before .get2 .ensures, c .get3 .ensures)
 
 pub slot-at-spec : {M : Type 1} → statement M
-slot-at-spec = tie.close (tie.spec mul-i add-i get-requires get-requires-2 get-requires-3 returns)
+slot-at-spec = tie.close (tie.spec get-requires get-requires-2 get-requires-3 returns)

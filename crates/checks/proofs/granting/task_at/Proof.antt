@@ -9,7 +9,7 @@ use Rattle.checks.proofs.granting.task_at.Statement.{statement}
 use Rattle.checks.proofs.granting.task_at.Tie as tie
 
 abbrev Inv-loop : tie.InvT-loop
-Inv-loop s t slots₀ j₀ slots j = (j ≤ 16) × (length slots ≡ 16) × (take j slots ≡ upTo j (slotAt (read s) t))
+Inv-loop s t slots₀ j₀ slots j = (j ≤ 16) × (length slots ≡ 16) × (take j slots ≡ upTo j (λ j. slotAt (read s) (at t j)))
 
 abbrev μ-loop : tie.MeasureT-loop
 μ-loop s t slots₀ j₀ slots j = 16 - j
@@ -18,8 +18,8 @@ loop-holds : tie.Need-loop-holds Inv-loop μ-loop
 unfolding upTo
 loop-holds c = (omega arith, refl, refl)
 
-slot-at-requires : tie.Need-slot-at-requires Inv-loop μ-loop
-slot-at-requires c κs = omega arith
+slot-of-requires : tie.Need-slot-of-requires Inv-loop μ-loop
+slot-of-requires c κs = omega arith
 
 mul-slots : tie.Need-mul-slots Inv-loop μ-loop
 mul-slots c = omega arith
@@ -36,7 +36,7 @@ loop-less c = omega arith
 loop-again : tie.Need-loop-again Inv-loop μ-loop
 loop-again c =
     let i = c .before .before .loop .inv in
-    (omega arith, simp length-set (i .1), rw (c .slot-at .ensures) (upTo-more _ _ (slotAt _ _) (omega (arith, i .1)) (i .2)))
+    (omega arith, simp length-set (i .1), rw (c .slot-of .ensures) (upTo-more _ _ (λ j. slotAt _ (at _ j)) (omega (arith, i .1)) (i .2)))
 
 get-requires : tie.Need-get-requires Inv-loop μ-loop
 get-requires c κs = omega arith
@@ -60,7 +60,7 @@ returns c =
     let l = g .before .before .loop in
     let a = g .before .before .before .before .args in
     let d : l .j ≡ 16 = omega arith in
-    let e : l .slots ≡ upTo 16 (slotAt (read (a .s .now)) (a .t)) = sym (take-all 16 (l .slots) (omega (arith, l .inv .1))) ∙ rw d at (l .inv .2) in
+    let e : l .slots ≡ upTo 16 (λ j. slotAt (read (a .s .now)) (at (a .t) j)) = sym (take-all 16 (l .slots) (omega (arith, l .inv .1))) ∙ rw d at (l .inv .2) in
     rw (g .get .ensures, c .before .before .before .get2 .ensures, c .before .before .get3 .ensures, c .before .get4 .ensures, c .get5 .ensures, e)
 
 pub task-at-spec : {M : Type 1} → statement M
@@ -70,7 +70,7 @@ task-at-spec =
     Inv-loop
     μ-loop
     loop-holds
-    slot-at-requires
+    slot-of-requires
     mul-slots
     array-set-from-slots
     add-j

@@ -8,14 +8,14 @@ use Rattle.holding.proofs.finishing.ready_marked.Tie as tie
 get-requires : tie.Need-get-requires
 get-requires c κs = search needs
 
+mul-if1 : tie.Need-mul-if1
+mul-if1 c = search needs
+
+shared-slice-read-if1 : tie.Need-shared-slice-read-if1
+shared-slice-read-if1 c = search needs
+
 get-requires-2 : tie.Need-get-requires-2
 get-requires-2 c κs = search needs
-
-mul-if2 : tie.Need-mul-if2
-mul-if2 c = search needs
-
-shared-slice-read-if2 : tie.Need-shared-slice-read-if2
-shared-slice-read-if2 c = search needs
 
 set-requires : tie.Need-set-requires
 set-requires c κs = search needs
@@ -27,31 +27,31 @@ returns : tie.Need-returns
 returns c =
     let f = c .before .before in
     let g = f .before .before in
-    let h = g .before .before in
-    rw (ready-yes _ _ _ (sym (h .before .before .before .get .ensures) ∙ h .before .before .if1 .taken) (rw (h .get2 .ensures) at (g .if2 .taken))) (f .set .ensures)
+    let h = g .before .before .before in
+    rw (ready-yes _ _ _ (sym (g .before .get2 .ensures) ∙ g .if2 .taken) (rw (h .before .before .get .ensures) at (h .if1 .taken))) (f .set .ensures)
 
 same-length-2 : tie.Need-same-length-2
 same-length-2 c = search needs
 
 returns-2 : tie.Need-returns-2
-returns-2 c =
-    let e = c .before .before .get2 .ensures in
-    rw (ready-no _ _ _ (λ x. (rw e at (c .if2 .left)) (x .1))) (wrote-none _)
+returns-2 c = rw (ready-no _ _ _ (λ x. c .if2 .left (c .before .get2 .ensures ∙ x .0))) (wrote-none _)
 
 same-length-3 : tie.Need-same-length-3
 same-length-3 c = search needs
 
 returns-3 : tie.Need-returns-3
-returns-3 c = rw (ready-no _ _ _ (λ x. c .if1 .left (c .before .get .ensures ∙ x .0))) (wrote-none _)
+returns-3 c =
+    let e = c .before .before .get .ensures in
+    rw (ready-no _ _ _ (λ x. (rw e at (c .if1 .left)) (x .1))) (wrote-none _)
 
 pub ready-marked-spec : {M : Type 1} → statement M
 ready-marked-spec =
     tie.close
     (tie.spec
     get-requires
+    mul-if1
+    shared-slice-read-if1
     get-requires-2
-    mul-if2
-    shared-slice-read-if2
     set-requires
     same-length
     returns
