@@ -6,8 +6,8 @@ is whether `laws`, which stands on it, is. Each mutant is made in a copy of the 
 computed cases would refuse many of them before `laws` is reached, and with only that part of `laws` that the file of a
 named theorem needs: where that is refused, so is the whole. A mutant counts as caught if `rules` is still proved, `laws`
 is refused, and no refusal is about a name that is not there: so a proof fails, since what it shows is no longer so.
-Prints a line a mutant with the first refusal's file and declaration, and last `N passed, M failed`. It takes minutes:
-run it on demand.
+Prints a line a mutant with the first refusal's file and declaration, and last `N passed, M failed`. It takes a minute or two
+where `rules` and `laws` were proved before.
 """
 import os
 import re

@@ -2,9 +2,12 @@
 -- are not live. Of any other the output event fired when it should have.
 use Prim.Native.Nat.{ℕ, zero, suc, _+_, _-_, _≤_, _<_}
 use mathlib.Core.Path.{_≡_, refl, sym, subst, _∙_}
+use mathlib.Core.List.{List}
 use mathlib.Core.Logic.{_⊎_, inl, inr}
 use native.Mathlib.Omega.{arith}
 use native.Mathlib.Decide.{decLt}
+use lib.ListN.{length, getD, set, replicate, getD-replicate, length-replicate, List·getD-eq-default}
+use lib.Seq.{getD-set-same, getD-set-other}
 use Rattle.session.specs.Table.{Session, put, change}
 use Rattle.session.specs.declared.Field.the-variants.{Objects, Kind, TaskState, TaskCreator, TaskFinish, TaskOutput, EventState, EventType}
 use Rattle.session.specs.Names.{event, running, ended, eventOpen, fired, destroyedFired, destroyedUnfired}
@@ -12,11 +15,11 @@ use Rattle.rules.specs.Formula.{holds, choose, Formula._≐_, Formula._≼_, Fo
 use Rattle.rules.specs.FormulaLaws.{Case, decide, choose-yes, choose-no, Case.it-does, Case.it-does-not}
 use Rattle.rules.specs.Reading.{made, under, busy}
 use Rattle.rules.specs.Sound.{outputs}
-use Rattle.rules.specs.Effects.{finishes, letGo, buryDoomed, fire, fireOne, destroyEvent}
+use Rattle.rules.specs.Effects.{finishes, letGo, buryDoomed, fire, fireOne, fireFinished, destroyEvent}
 use Rattle.laws.specs.Places.{Places, places, put-there, Places.one, Places.two}
 use Rattle.laws.specs.Under.{under-enough, or-map}
 use Rattle.holding.specs.Tidy.{Tidy}
-use Rattle.holding.specs.Finish.{waits, waits-of, NoneFinish}
+use Rattle.holding.specs.Finish.{Marks, waits, waits-of, one-fires, fires-nothing}
 use Rattle.holding.specs.Parts.{either-way, outputDestroyed, outputFired, ending}
 
 -- a is h, or stands above it by the creators given
@@ -27,6 +30,27 @@ Reached c h a = (1 ≤ h) × ((h ≡ a) ⊎ holds (under c h h a))
 pub record OnlyAbove (s : Session) (h : ℕ) : Type 0 where
   pub known : h ≤ s Objects 0
   pub reached : (e : ℕ) → holds (finishes s e) → Reached (s TaskCreator) h (e - 1)
+
+-- A climb has come to h: what is marked finishes, and what finishes is marked or reached from h. found is 0 where nothing is
+-- marked, the event where it is one, and 513 where there may be more.
+pub record Climbed (s : Session) (m : List ℕ) (found h : ℕ) : Type 0 where
+  pub known : h ≤ s Objects 0
+  pub sure : (e : ℕ) → getD m e 0 ≡ 1 → holds (finishes s e)
+  pub reached : (e : ℕ) → holds (finishes s e) → (getD m e 0 ≡ 1) ⊎ Reached (s TaskCreator) h (e - 1)
+  pub alone : found ≤ 512 → (e : ℕ) → getD m e 0 ≡ 1 → e ≡ found
+  pub there : 1 ≤ found → found ≤ 512 → getD m found 0 ≡ 1
+
+-- an event is made
+pub event-made : (s : Session) → Tidy s → (e : ℕ) → s Kind e ≡ event → holds (made s e)
+event-made s x e k = (some (decLt 0 e), low (decLt (s Objects 0) e))
+  where
+    some : Dec (0 < e) → 1 ≤ e
+    some (yes l) = l
+    some (no n) = let i : e ≡ 0 = omega arith in let z : s Kind e ≡ 0 = rw i (x .frame .null) in absurd (omega arith)
+
+    low : Dec (s Objects 0 < e) → e ≤ s Objects 0
+    low (yes l) = let z = x .frame .unmade e l in absurd (omega arith)
+    low (no n) = omega arith
 
 -- the creator of h, or 0 if it is live
 unfoldable pub doneCreator : Session → ℕ → ℕ
@@ -41,9 +65,8 @@ unfolding doneCreator
 creator-done s h n = choose-no (s TaskState (s TaskCreator h) ≼ running) 0 (s TaskCreator h) n
 
 -- handle 0 stands below nobody
-pub none-finish : (s : Session) → OnlyAbove s 0 → NoneFinish s
-unfolding NoneFinish
-none-finish s o e f = let z = o .reached e f .0 in omega arith
+pub none-above : (s : Session) → OnlyAbove s 0 → fireFinished s ≡ s
+none-above s o = fires-nothing s (λ e f. let z = o .reached e f .0 in omega arith)
 
 -- who stands above h is its creator or stands above that one
 above-creator : (c : ℕ → ℕ) (n : ℕ) → ((h : ℕ) → h ≤ n → 1 ≤ c h → c h < h) → (h a : ℕ) → h ≤ n → holds (under c h h a) → Reached c (c h) a
@@ -80,20 +103,120 @@ module _ (s : Session) (x : Tidy s) (h : ℕ) (l : h ≤ s Objects 0) where
       go (inl q) = let z : s TaskState (c h) ≡ ended = rw q e in omega arith
       go (inr u) = idle (c h, (let b = creator-made in omega arith), ((x .frame .makers h l (y .0), live), u))
 
-  -- one step up
-  pub climbs : 1 ≤ h → OnlyAbove s h → (holds (waits s (h + 1)) → ⊥) → OnlyAbove s (doneCreator s h)
-  climbs m o n = record { known = let d = done-lower m in omega arith; reached = λ e f. go e f (decide (s TaskState (c h) ≼ running)) }
+  -- what finishes and is reached from h is the event of h, of which something else may be known, or is reached from one step up
+  step : {B : Type 0} (e : ℕ) → holds (finishes s e) → Reached c h (e - 1) → (e ≡ h + 1 → B) → B ⊎ Reached c (doneCreator s h) (e - 1)
+  step {B} e f r own = go (r .1)
     where
-      up : (e : ℕ) → holds (finishes s e) → (h ≡ e - 1) ⊎ holds (under c h h (e - 1)) → Reached c (c h) (e - 1)
-      up e f (inl q) = let p : e ≡ h + 1 = omega arith in absurd (n (subst (λ (i : ℕ). holds (waits s i)) p (waits-of s e f)))
-      up e f (inr u) = above-creator c (s Objects 0) (x .frame .falls) h (e - 1) l u
+      up : Reached c (c h) (e - 1) → Case (s TaskState (c h) ≼ running) → Reached c (doneCreator s h) (e - 1)
+      up y (it-does live) = absurd (live-stops (e - 1) live (f .1 .1 .1 .1 .0) (f .1 .1 .1 .1 .1) y)
+      up y (it-does-not d) = rw (creator-done s h d) y
 
-      above : (e : ℕ) → holds (finishes s e) → Reached c (c h) (e - 1)
-      above e f = up e f (o .reached e f .1)
+      go : (h ≡ e - 1) ⊎ holds (under c h h (e - 1)) → B ⊎ Reached c (doneCreator s h) (e - 1)
+      go (inl q) = let m = r .0 in inl (own (omega arith))
+      go (inr u) = inr (up (above-creator c (s Objects 0) (x .frame .falls) h (e - 1) l u) (decide (s TaskState (c h) ≼ running)))
 
-      go : (e : ℕ) → holds (finishes s e) → Case (s TaskState (c h) ≼ running) → Reached c (doneCreator s h) (e - 1)
-      go e f (it-does live) = absurd (live-stops (e - 1) live (f .1 .1 .1 .1 .0) (f .1 .1 .1 .1 .1) (above e f))
-      go e f (it-does-not d) = rw (creator-done s h d) (above e f)
+  -- one step up where the event of h does not wait
+  pub climbs : 1 ≤ h → OnlyAbove s h → (holds (waits s h) → ⊥) → OnlyAbove s (doneCreator s h)
+  climbs m o n = record {
+    known = let d = done-lower m in omega arith;
+    reached = λ e f. go e (step e f (o .reached e f) (λ q. n (waits-of s h (subst (λ (i : ℕ). holds (finishes s i)) q f))));
+  }
+    where
+      go : (e : ℕ) → ⊥ ⊎ Reached c (doneCreator s h) (e - 1) → Reached c (doneCreator s h) (e - 1)
+      go e (inl q) = absurd q
+      go e (inr r) = r
+
+  module _ (m : List ℕ) (found : ℕ) (some : 1 ≤ h) (y : Climbed s m found h) where
+    -- one step up where the event of h does not finish
+    pub climbed-past : (holds (finishes s (h + 1)) → ⊥) → Climbed s m found (doneCreator s h)
+    climbed-past n = record {
+      known = let d = done-lower some in let k = y .known in omega arith;
+      sure = y .sure;
+      reached = λ e f. go e f (y .reached e f);
+      alone = y .alone;
+      there = y .there;
+    }
+      where
+        go : (e : ℕ) → holds (finishes s e) → (getD m e 0 ≡ 1) ⊎ Reached c h (e - 1) → (getD m e 0 ≡ 1) ⊎ Reached c (doneCreator s h) (e - 1)
+        go e f (inl q) = inl q
+        go e f (inr r) = step e f r (λ q. absurd (n (subst (λ (i : ℕ). holds (finishes s i)) q f)))
+
+    -- one step up where it does, and is marked
+    pub climbed-mark : holds (finishes s (h + 1)) → length m ≡ 513 → (v : ℕ) → ((found ≡ 0) × (v ≡ h + 1)) ⊎ (v ≡ 513) → Climbed s (set m (h + 1) 1) v (doneCreator s h)
+    climbed-mark f len v w = record {
+      known = let d = done-lower some in let k = y .known in omega arith;
+      sure = λ e q. sure e q (places (h + 1) e);
+      reached = λ e g. go e g (places (h + 1) e) (y .reached e g);
+      alone = λ few e q. alone few e q (places (h + 1) e) w;
+      there = λ one few. there few w;
+    }
+      where
+        here : getD (set m (h + 1) 1) (h + 1) 0 ≡ 1
+        here = getD-set-same m (h + 1) 1 0 (let o = event-made s x (h + 1) (f .0) .1 in omega (arith, o, len, x .frame .few))
+
+        before : (e : ℕ) → (h + 1 ≡ e → ⊥) → getD (set m (h + 1) 1) e 0 ≡ getD m e 0
+        before e n = getD-set-other m (h + 1) e 1 0 (λ q. n (sym q))
+
+        sure : (e : ℕ) → getD (set m (h + 1) 1) e 0 ≡ 1 → Places (h + 1) e → holds (finishes s e)
+        sure e q (one p) = subst (λ (i : ℕ). holds (finishes s i)) p f
+        sure e q (two n) = y .sure e (sym (before e n) ∙ q)
+
+        go : (e : ℕ) → holds (finishes s e) → Places (h + 1) e → (getD m e 0 ≡ 1) ⊎ Reached c h (e - 1) → (getD (set m (h + 1) 1) e 0 ≡ 1) ⊎ Reached c (doneCreator s h) (e - 1)
+        go e g (one p) r = inl (subst (λ (i : ℕ). getD (set m (h + 1) 1) i 0 ≡ 1) p here)
+        go e g (two n) (inl q) = inl (before e n ∙ q)
+        go e g (two n) (inr r) = step e g r (λ q. absurd (n (sym q)))
+
+        alone : v ≤ 512 → (e : ℕ) → getD (set m (h + 1) 1) e 0 ≡ 1 → Places (h + 1) e → ((found ≡ 0) × (v ≡ h + 1)) ⊎ (v ≡ 513) → e ≡ v
+        alone few e q p (inr z) = absurd (omega arith)
+        alone few e q (one p) (inl z) = sym p ∙ sym (z .1)
+        alone few e q (two n) (inl z) =
+            let k : getD m e 0 ≡ 1 = sym (before e n) ∙ q in
+            let o = event-made s x e (y .sure e k .0) .0 in
+            absurd (omega (arith, o, z .0, y .alone (omega (arith, z .0)) e k))
+
+        there : v ≤ 512 → ((found ≡ 0) × (v ≡ h + 1)) ⊎ (v ≡ 513) → getD (set m (h + 1) 1) v 0 ≡ 1
+        there few (inl z) = rw (z .1) here
+        there few (inr z) = absurd (omega arith)
+
+-- before the climb nothing is marked
+pub climbed-none : (s : Session) (t : ℕ) → OnlyAbove s t → Climbed s (replicate 513 0) 0 t
+climbed-none s t o = record {
+  known = o .known;
+  sure = λ e q. absurd (none e q (decLt e 513));
+  reached = λ e f. inr (o .reached e f);
+  alone = λ few e q. absurd (none e q (decLt e 513));
+  there = λ one few. absurd (never one);
+}
+  where
+    never : 1 ≤ 0 → ⊥
+    never l = omega arith
+
+    zeros : List ℕ
+    zeros = replicate 513 0
+
+    long : length zeros ≡ 513
+    long = length-replicate {A = ℕ} 513 0
+
+    none : (e : ℕ) → getD zeros e 0 ≡ 1 → Dec (e < 513) → ⊥
+    none e q (yes l) = let z : getD zeros e 0 ≡ 0 = getD-replicate 513 e 0 0 l in omega arith
+    none e q (no n) = let z : getD zeros e 0 ≡ 0 = List·getD-eq-default zeros 0 {n = e} (omega (arith, long)) in omega arith
+
+module _ (s : Session) (m : List ℕ) (found : ℕ) (y : Climbed s m found 0) where
+  -- after it everything that finishes is
+  pub climbed-all : Marks s m
+  climbed-all = record { sure = y .sure; all = λ e f. go e (y .reached e f) }
+    where
+      go : (e : ℕ) → (getD m e 0 ≡ 1) ⊎ Reached (s TaskCreator) 0 (e - 1) → getD m e 0 ≡ 1
+      go e (inl q) = q
+      go e (inr r) = let z = r .0 in absurd (omega arith)
+
+  -- nothing fires where nothing was found
+  pub found-none : Tidy s → found ≡ 0 → fireFinished s ≡ s
+  found-none x z = fires-nothing s (λ e f. let o = event-made s x e (f .0) .0 in omega (arith, o, z, y .alone (omega arith) e (climbed-all .all e f)))
+
+  -- one event where one was found
+  pub found-one : (found ≡ 0 → ⊥) → found ≤ 512 → fireOne s found 0 ≡ fireFinished s
+  found-one n few = one-fires s found (y .sure found (y .there (omega arith) few)) (λ e f. y .alone few e (climbed-all .all e f))
 
 -- of what `finishes` reads, r is s but for the states of task t and of its output event
 pub record OnlyOwn (s r : Session) (t : ℕ) : Type 0 where
@@ -105,18 +228,6 @@ pub record OnlyOwn (s r : Session) (t : ℕ) : Type 0 where
   pub events : (e : ℕ) → (t + 1 ≡ e → ⊥) → r EventState e ≡ s EventState e
 
 module _ (s r : Session) (t : ℕ) (x : Tidy s) (o : holds (outputs s)) (own : OnlyOwn s r t) where
-  -- an event is made
-  event-made : (e : ℕ) → s Kind e ≡ event → holds (made s e)
-  event-made e k = (some e k, low (decLt (s Objects 0) e))
-    where
-      some : (i : ℕ) → s Kind i ≡ event → 1 ≤ i
-      some zero q = let z = x .frame .null in absurd (omega arith)
-      some (suc i) q = omega arith
-
-      low : Dec (s Objects 0 < e) → e ≤ s Objects 0
-      low (yes l) = let z = x .frame .unmade e l in absurd (omega arith)
-      low (no n) = omega arith
-
   -- who does not stand above t is as busy as before
   idle-before : (a : ℕ) → (holds (under (s TaskCreator) t t a) → ⊥) → (holds (busy r a) → ⊥) → holds (busy s a) → ⊥
   idle-before a n idle b = go (places t (b .0))
@@ -130,8 +241,8 @@ module _ (s r : Session) (t : ℕ) (x : Tidy s) (o : holds (outputs s)) (own : O
   fired-before : (e : ℕ) → (t ≡ e - 1 → ⊥) → (holds (under (s TaskCreator) t t (e - 1)) → ⊥) → holds (finishes r e) → s EventState e ≡ fired
   fired-before e n u f =
       let k : s Kind e ≡ event = sym (own .kinds e) ∙ f .0 in
-      let lo = event-made e k .0 in
-      let hi = event-made e k .1 in
+      let lo = event-made s x e k .0 in
+      let hi = event-made s x e k .1 in
       let of = o e (omega arith) .1 (k, sym (own .types e) ∙ f .1 .0) in
       let out = o (e - 1) (omega arith) .0 of in
       let back : e - 1 + 1 ≡ e = omega arith in

@@ -1,67 +1,23 @@
 -- The finish events that fire: marked first, then their states and the states of their links.
-use Prim.Native.Nat.{ℕ, suc, _+_, _-_, _≤_, _<_}
-use mathlib.Core.Path.{_≡_, sym, ap, _∙_}
+use Prim.Native.Nat.{ℕ, _+_, _-_, _<_}
+use mathlib.Core.Path.{_≡_, sym, ap, subst, _∙_}
 use mathlib.Core.List.{List}
 use native.Mathlib.Omega.{arith}
-use native.Mathlib.Decide.{decLt}
-use lib.ListN.{length, getD, set, List·getD-eq-default}
-use lib.Seq.{getD-set-same, getD-set-other}
+use lib.ListN.{getD}
 use Rattle.session.specs.Table.{Session, put, change, sweep}
 use Rattle.session.specs.TableLaws.{sweep-change}
 use Rattle.session.specs.declared.Field.{Field}
 use Rattle.session.specs.declared.Field.the-variants.{Objects, Links, Kind, TaskState, TaskFinish, EventState, EventType, EventPayload, LinkSource, LinkState}
 use Rattle.session.specs.Names.{event, ended, eventOpen, fired, output, linkOpen, ready}
-use Rattle.rules.specs.Formula.{Formula, holds, choose, test, Formula._≐_, Formula._≼_, Formula._and_, Formula.never, Formula.some}
+use Rattle.rules.specs.Formula.{Formula, holds, choose, test, Formula._≐_, Formula._and_}
 use Rattle.rules.specs.FormulaLaws.{Case, decide, choose-yes, choose-no, passes, fails, Case.it-does, Case.it-does-not}
 use Rattle.rules.specs.Reading.{isKind, busy}
-use Rattle.rules.specs.Effects.{finishes, fire, fireFinished}
-use Rattle.laws.specs.Places.{Places, places, Places.one, Places.two}
-use Rattle.ancestors.specs.Above.{Shows, choose-same}
+use Rattle.rules.specs.Effects.{finishes, fire, fireOne, fireFinished}
+use Rattle.ancestors.specs.Above.{choose-same}
 use Rattle.effects.specs.Puts.{put-same}
 use Rattle.effects.specs.Firing.{NoMoreLinks}
 use Rattle.holding.specs.Rows.{row, rows, change-same, change-idle}
 use Rattle.holding.specs.Tidy.{Tidy}
-
--- a below n finishes
-unfoldable pub finishing : Session → ℕ → ℕ → Formula
-finishing s n a = suc a ≼ n and finishes s a
-
--- one more event looked at
-module _ (s : Session) (m : List ℕ) (e : ℕ) (x : Shows m (finishing s e)) where
-  pub finishing-yes : holds (finishes s e) → e < length m → Shows (set m e 1) (finishing s (e + 1))
-  unfolding Shows finishing
-  finishing-yes f l a b = go (places e a)
-    where
-      go : Places e a → getD (set m e 1) a 0 ≡ choose (finishing s (e + 1) a) 1 0
-      go (one q) =
-          let g : holds (finishing s (e + 1) a) = (omega arith, rw q at f) in
-          rw (← q) (getD-set-same m e 1 0 l) ∙ sym (choose-yes (finishing s (e + 1) a) 1 0 g)
-      go (two n) =
-          getD-set-other m e a 1 0 (λ q. n (sym q)) ∙ x a b
-          ∙ choose-same (finishing s e a) (finishing s (e + 1) a) 1 0 (λ y. (let z = y .0 in omega arith, y .1)) (λ y. (let z = y .0 in omega arith, y .1))
-
-  pub finishing-no : (holds (finishes s e) → ⊥) → Shows m (finishing s (e + 1))
-  unfolding Shows finishing
-  finishing-no f a b = x a b ∙ choose-same (finishing s e a) (finishing s (e + 1) a) 1 0 (λ y. (let z = y .0 in omega arith, y .1)) (λ y. less y (places e a))
-    where
-      less : holds (finishing s (e + 1) a) → Places e a → holds (finishing s e a)
-      less y (one q) = absurd (f (rw (sym q) at (y .1)))
-      less y (two n) = let z = y .0 in (omega arith, y .1)
-
-module _ (s : Session) (m : List ℕ) where
-  pub finishing-none : s Kind 0 ≡ 0 → Shows m (λ a. never) → Shows m (finishing s 1)
-  unfolding Shows finishing
-  finishing-none k x a b =
-      x a b ∙ choose-same never (finishing s 1 a) 1 0 (λ z. absurd z) (λ y. let z = y .0 in let i : a ≡ 0 = omega arith in let e : s Kind a ≡ event = y .1 .0 in let o : s Kind a ≡ 0 = rw i k in omega arith)
-
-  pub finishing-all : (n : ℕ) → n ≡ s Objects 0 + 1 → ((h : ℕ) → s Objects 0 < h → s Kind h ≡ 0) → Shows m (finishing s n) → Shows m (finishes s)
-  unfolding Shows finishing
-  finishing-all n e unmade x a b =
-      x a b ∙ choose-same (finishing s n a) (finishes s a) 1 0 (λ y. y .1) (λ y. (low y (decLt (s Objects 0) a), y))
-    where
-      low : holds (finishes s a) → Dec (s Objects 0 < a) → suc a ≤ n
-      low y (yes l) = let z = unmade a l in let k = y .0 in absurd (omega arith)
-      low y (no l) = omega arith
 
 -- firing by marks
 unfoldable pub fireRow : List ℕ → ℕ → (Field → ℕ) → ℕ
@@ -112,47 +68,43 @@ ready-end s m n none q =
     rw q
     (sweep-change s LinkState (s Links 0 + 1) (rows (readyRow m) s) (λ l h. choose-no ((s LinkState l ≐ linkOpen) and (getD m (s LinkSource l) 0 ≐ 1)) ready (s LinkState l) (λ x. let z = none l (omega arith) in let o = x .0 in omega arith)))
 
+-- firing goes by what its formula says at each place
+fire-same : (s : Session) (f g : ℕ → Formula) (p : ℕ → ℕ) → ((e : ℕ) → holds (f e) → holds (g e)) → ((e : ℕ) → holds (g e) → holds (f e)) → fire s f p ≡ fire s g p
+unfolding fire
+fire-same s f g p to from =
+    change-same _ LinkState _ _ (λ l. choose-same ((s LinkState l ≐ linkOpen) and f (s LinkSource l)) ((s LinkState l ≐ linkOpen) and g (s LinkSource l)) ready (s LinkState l) (λ y. (y .0, to (s LinkSource l) (y .1))) (λ y. (y .0, from (s LinkSource l) (y .1))))
+    ∙ ap (λ (r : Session). change r LinkState (λ l. choose ((s LinkState l ≐ linkOpen) and g (s LinkSource l)) ready (s LinkState l)))
+    (change-same _ EventPayload _ _ (λ e. choose-same (f e) (g e) (p e) (s EventPayload e) (to e) (from e))
+    ∙ ap (λ (r : Session). change r EventPayload (λ e. choose (g e) (p e) (s EventPayload e)))
+    (change-same s EventState _ _ (λ e. choose-same (f e) (g e) fired (s EventState e) (to e) (from e))))
+
+-- where e alone finishes, it alone fires
+pub one-fires : (s : Session) (e : ℕ) → holds (finishes s e) → ((k : ℕ) → holds (finishes s k) → k ≡ e) → fireOne s e 0 ≡ fireFinished s
+unfolding fireOne fireFinished
+one-fires s e f alone = fire-same s (λ k. k ≐ e) (finishes s) (λ k. 0) (λ k q. subst (λ (i : ℕ). holds (finishes s i)) (sym q) f) alone
+
 -- the marks say of each handle whether it finishes
-module _ (s : Session) (m : List ℕ) (t : Tidy s) (len : length m ≡ 513) (x : Shows m (finishes s)) where
-  marked-finishes : (e : ℕ) → getD m e 0 ≡ 1 → holds (finishes s e)
-  unfolding Shows
-  marked-finishes e q = go (decLt e 513)
-    where
-      inside : Case (finishes s e) → e < 513 → holds (finishes s e)
-      inside (it-does y) l = y
-      inside (it-does-not n) l = let z : _≡_ {A = ℕ} 1 0 = sym q ∙ x e l ∙ choose-no (finishes s e) 1 0 n in absurd (omega arith)
+pub record Marks (s : Session) (m : List ℕ) : Type 0 where
+  pub sure : (e : ℕ) → getD m e 0 ≡ 1 → holds (finishes s e)
+  pub all : (e : ℕ) → holds (finishes s e) → getD m e 0 ≡ 1
 
-      go : Dec (e < 513) → holds (finishes s e)
-      go (yes l) = inside (decide (finishes s e)) l
-      go (no n) = let z : getD m e 0 ≡ 0 = List·getD-eq-default m 0 {n = e} (omega arith) in absurd (omega arith)
-
-  finishes-marked : (e : ℕ) → holds (finishes s e) → getD m e 0 ≡ 1
-  unfolding Shows
-  finishes-marked e f = go (decLt e 513)
-    where
-      go : Dec (e < 513) → getD m e 0 ≡ 1
-      go (yes l) = x e l ∙ choose-yes (finishes s e) 1 0 f
-      go (no n) =
-          let b = t .frame .few in
-          let z = t .frame .unmade e (omega arith) in
-          let k = f .0 in
-          absurd (omega arith)
-
+module _ (s : Session) (m : List ℕ) (t : Tidy s) (x : Marks s m) where
+  -- no mark is past the count
   pub marks-within : Within m (s Objects 0)
-  marks-within e l q = let f : holds (finishes s e) = marked-finishes e q in let z = t .frame .unmade e l in let k = f .0 in omega arith
+  marks-within e l q = let z = t .frame .unmade e l in let k = x .sure e q .0 in omega arith
 
+  -- firing by marks fires what finishes: its payload is 0 already
   pub finished-fire : linksReady (statesFired s m) m ≡ fireFinished s
   unfolding linksReady readyRow statesFired fireRow fireFinished fire change
   finished-fire =
-      change-same _ LinkState _ _ (λ l. choose-same ((s LinkState l ≐ linkOpen) and (getD m (s LinkSource l) 0 ≐ 1)) ((s LinkState l ≐ linkOpen) and finishes s (s LinkSource l)) ready (s LinkState l) (λ y. (y .0, marked-finishes (s LinkSource l) (y .1))) (λ y. (y .0, finishes-marked (s LinkSource l) (y .1))))
-      ∙ ap (λ (r : Session). change r LinkState (λ l. choose ((s LinkState l ≐ linkOpen) and finishes s (s LinkSource l)) ready (s LinkState l)))
-      (sym (change-idle (statesFired s m) EventPayload (λ e. choose (finishes s e) 0 (s EventPayload e)) (λ e. empty e (decide (finishes s e))))
-      ∙ ap (λ (r : Session). change r EventPayload (λ e. choose (finishes s e) 0 (s EventPayload e)))
-      (change-same s EventState _ _ (λ e. choose-same (getD m e 0 ≐ 1) (finishes s e) fired (s EventState e) (marked-finishes e) (finishes-marked e))))
+      ap (λ (r : Session). change r LinkState (rows (readyRow m) s)) (sym (change-idle (statesFired s m) EventPayload (λ e. choose (getD m e 0 ≐ 1) 0 (s EventPayload e)) (λ e. empty e (decide (getD m e 0 ≐ 1)))))
+      ∙ fire-same s (λ e. getD m e 0 ≐ 1) (finishes s) (λ e. 0) (x .sure) (x .all)
     where
-      empty : (e : ℕ) → Case (finishes s e) → choose (finishes s e) 0 (s EventPayload e) ≡ s EventPayload e
-      empty e (it-does f) = choose-yes (finishes s e) 0 (s EventPayload e) f ∙ sym (t .open-empty e (f .0) (f .1 .1 .0))
-      empty e (it-does-not n) = choose-no (finishes s e) 0 (s EventPayload e) n
+      empty : (e : ℕ) → Case (getD m e 0 ≐ 1) → choose (getD m e 0 ≐ 1) 0 (s EventPayload e) ≡ s EventPayload e
+      empty e (it-does q) =
+          let f : holds (finishes s e) = x .sure e q in
+          choose-yes (getD m e 0 ≐ 1) 0 (s EventPayload e) q ∙ sym (t .open-empty e (f .0) (f .1 .1 .0))
+      empty e (it-does-not n) = choose-no (getD m e 0 ≐ 1) 0 (s EventPayload e) n
 
 -- what a mark of 0, and any other, says
 pub mark-no : (f : Formula) (m : ℕ) → m ≡ choose f 1 0 → m ≡ 0 → holds f → ⊥
@@ -174,26 +126,30 @@ tidy-fired s m t = record { frame = t .frame; no-more = t .no-more; open-empty =
     after e k o (it-does q) = let z : fired ≡ eventOpen = sym (choose-yes (getD m e 0 ≐ 1) fired (s EventState e) q) ∙ o in absurd (omega arith)
     after e k o (it-does-not n) = t .open-empty e k (sym (choose-no (getD m e 0 ≐ 1) fired (s EventState e) n) ∙ o)
 
--- e is an open output event, and its task is finish and ended: it fires once no descendant is live
+-- task h is finish and ended, and the next handle its open output event: it fires once no descendant is live
 abbrev pub waits : Session → ℕ → Formula
-waits s e = isKind s event e and s EventType e ≐ output and s EventState e ≐ eventOpen and s TaskFinish (e - 1) ≐ 1 and s TaskState (e - 1) ≐ ended
+waits s h = isKind s event (h + 1) and s EventType (h + 1) ≐ output and s EventState (h + 1) ≐ eventOpen and s TaskFinish h ≐ 1 and s TaskState h ≐ ended
 
-pub waits-of : (s : Session) (e : ℕ) → holds (finishes s e) → holds (waits s e)
-waits-of s e x = (x .0, (x .1 .0, (x .1 .1 .0, (x .1 .1 .1 .0, x .1 .1 .1 .1 .0))))
+pub waits-of : (s : Session) (h : ℕ) → holds (finishes s (h + 1)) → holds (waits s h)
+waits-of s h x =
+    let back : h + 1 - 1 ≡ h = omega arith in
+    (x .0, (x .1 .0, (x .1 .1 .0, (rw back at (x .1 .1 .1 .0), rw back at (x .1 .1 .1 .1 .0)))))
 
-pub finishes-waits : (s : Session) (e : ℕ) → (holds (busy s (e - 1)) → ⊥) → test (waits s e) ≡ test (finishes s e)
-finishes-waits s e idle = go (decide (waits s e))
+pub finishes-idle : (s : Session) (h : ℕ) → holds (finishes s (h + 1)) → holds (busy s h) → ⊥
+finishes-idle s h x b = let back : h + 1 - 1 ≡ h = omega arith in x .1 .1 .1 .1 .1 (rw back b)
+
+pub finishes-waits : (s : Session) (h : ℕ) → (holds (busy s h) → ⊥) → test (waits s h) ≡ test (finishes s (h + 1))
+finishes-waits s h idle = go (decide (waits s h))
   where
-    go : Case (waits s e) → test (waits s e) ≡ test (finishes s e)
-    go (it-does x) = passes (waits s e) x ∙ sym (passes (finishes s e) (x .0, (x .1 .0, (x .1 .1 .0, (x .1 .1 .1 .0, (x .1 .1 .1 .1, idle))))))
-    go (it-does-not n) = fails (waits s e) n ∙ sym (fails (finishes s e) (λ x. n (waits-of s e x)))
+    go : Case (waits s h) → test (waits s h) ≡ test (finishes s (h + 1))
+    go (it-does x) =
+        let back : h + 1 - 1 ≡ h = omega arith in
+        passes (waits s h) x ∙ sym (passes (finishes s (h + 1)) (x .0, (x .1 .0, (x .1 .1 .0, (rw back (x .1 .1 .1 .0), (rw back (x .1 .1 .1 .1), rw back idle))))))
+    go (it-does-not n) = fails (waits s h) n ∙ sym (fails (finishes s (h + 1)) (λ x. n (waits-of s h x)))
 
 -- where nothing finishes nothing fires
-unfoldable pub NoneFinish : Session → Type 0
-NoneFinish s = (e : ℕ) → holds (finishes s e) → ⊥
-
-pub fires-nothing : (s : Session) → NoneFinish s → fireFinished s ≡ s
-unfolding NoneFinish fireFinished fire change
+pub fires-nothing : (s : Session) → ((e : ℕ) → holds (finishes s e) → ⊥) → fireFinished s ≡ s
+unfolding fireFinished fire change
 fires-nothing s n =
     change-idle (change (change s EventState states) EventPayload payloads) LinkState links (λ l. choose-no ((s LinkState l ≐ linkOpen) and finishes s (s LinkSource l)) ready (s LinkState l) (λ x. n (s LinkSource l) (x .1)))
     ∙ change-idle (change s EventState states) EventPayload payloads (λ e. choose-no (finishes s e) 0 (s EventPayload e) (n e))
@@ -207,15 +163,3 @@ fires-nothing s n =
 
     links : ℕ → ℕ
     links l = choose ((s LinkState l ≐ linkOpen) and finishes s (s LinkSource l)) ready (s LinkState l)
-
--- some handle is marked
-unfoldable pub someMarked : List ℕ → Formula
-someMarked m = some 513 (λ e. getD m e 0 ≐ 1)
-
-pub none-marked : (s : Session) (m : List ℕ) → Tidy s → length m ≡ 513 → Shows m (finishes s) → (holds (someMarked m) → ⊥) → fireFinished s ≡ s
-unfolding someMarked NoneFinish
-none-marked s m t len x n = fires-nothing s (λ e f. n (e, low e (f .0) (decLt (s Objects 0) e), finishes-marked s m t len x e f))
-  where
-    low : (e : ℕ) → s Kind e ≡ event → Dec (s Objects 0 < e) → e < 513
-    low e k (yes l) = let z = t .frame .unmade e l in absurd (omega arith)
-    low e k (no q) = let b = t .frame .few in omega arith

@@ -2,91 +2,117 @@
 use session::Field;
 use session::names;
 ghost use mathlib.Core.Path.{_≡_};
-ghost use mathlib.Core.Bool.{false};
-ghost use Prim.Native.Nat.{_+_, _-_, _≤_, _<_};
-ghost use lib.ListN.{length, getD};
+ghost use Prim.Native.Nat.{_+_, _≤_, _<_};
+ghost use lib.ListN.{length};
 ghost use Rattle.session.specs.Table.{Wrote, read, put, words};
-ghost use Rattle.session.specs.declared.Field.the-variants.{Objects, Links, Kind, EventState, LinkSource, LinkState};
-ghost use Rattle.rules.specs.Formula.{test, choose, Formula.never};
+ghost use Rattle.session.specs.declared.Field.the-variants.{Objects, EventState, LinkSource, LinkState};
+ghost use Rattle.rules.specs.Formula.{test};
 ghost use Rattle.rules.specs.Reading.{busy};
 ghost use Rattle.rules.specs.Effects.{finishes, fireFinished};
 ghost use Rattle.ancestors.specs.Above.{Shows};
-ghost use Rattle.effects.specs.Firing.{NoMoreLinks};
 ghost use Rattle.holding.specs.Rows.{row};
 ghost use Rattle.holding.specs.Tidy.{Tidy};
-ghost use Rattle.holding.specs.Finish.{waits, NoneFinish, finishing, fireRow, statesFired, readyRow, linksReady, Within, someMarked};
-ghost use Rattle.holding.specs.Climb.{OnlyAbove, doneCreator};
+ghost use Rattle.holding.specs.Finish.{waits, fireRow, statesFired, readyRow, linksReady, Within};
+ghost use Rattle.holding.specs.Climb.{OnlyAbove, Climbed, doneCreator};
 
-// Whether e is an open output event of an ended finish task; that few tasks have ended is looked at first. Internal: callers have shown the length and the handle.
-fn is_waiting(s: &[u64], e: u64) -> bool
-    requires { ⌜ (words ≤ length (now s)) × (1 ≤ e) × (e ≤ 512) ⌝ }
-    ensures { λ r. ⌜ r ≡ test (waits (read (now (s .entry))) e) ⌝ }
+// Whether task h is an ended finish task with an open output event, which is the next handle; the last handle is followed by
+// none. That few tasks have ended is looked at first. Internal: callers have shown the length, a tidy session and the handle.
+fn task_waits(s: &[u64], h: u64) -> bool
+    requires { ⌜ (words ≤ length (now s)) × Tidy (read (now s)) × (h ≤ read (now s) Objects 0) ⌝ }
+    ensures { λ r. ⌜ r ≡ test (waits (read (now (s .entry))) h) ⌝ }
 {
-    let t = (e - 1) as usize;
+    let t = h as usize;
     if session::get(s, Field::TaskState, t) != names::ENDED {
         return false;
     }
     if session::get(s, Field::TaskFinish, t) != 1 {
         return false;
     }
-    if session::get(s, Field::EventState, e as usize) != names::OPEN {
+    if names::MOST_OBJECTS <= h {
         return false;
     }
-    if session::get(s, Field::Kind, e as usize) != names::EVENT {
+    if session::get(s, Field::EventState, t + 1) != names::OPEN {
         return false;
     }
-    if session::get(s, Field::EventType, e as usize) != names::OUTPUT {
+    if session::get(s, Field::Kind, t + 1) != names::EVENT {
+        return false;
+    }
+    if session::get(s, Field::EventType, t + 1) != names::OUTPUT {
         return false;
     }
     true
 }
 
-// Whether e waits and its task has no live descendant, which the mark tells. Internal: callers have shown the length, the
-// handle and the mark.
-fn is_finishing(s: &[u64], mark: u64, e: u64) -> bool
-    requires { ⌜ (words ≤ length (now s)) × (1 ≤ e) × (e ≤ 512) × (mark ≡ choose (busy (read (now s)) (e - 1)) 1 0) ⌝ }
-    ensures { λ r. ⌜ r ≡ test (finishes (read (now (s .entry))) e) ⌝ }
+// The creator of task h, or 0 if it is live: no task above a live one can be done. Internal, as `task_waits` is.
+fn done_creator(s: &[u64], h: u64) -> u64
+    requires { ⌜ (words ≤ length (now s)) × Tidy (read (now s)) × (h ≤ read (now s) Objects 0) ⌝ }
+    ensures { λ r. ⌜ r ≡ doneCreator (read (now (s .entry))) h ⌝ }
 {
-    if mark != 0 {
+    let c = session::get(s, Field::TaskCreator, h as usize);
+    if session::get(s, Field::TaskState, c as usize) <= names::RUNNING {
+        return 0;
+    }
+    c
+}
+
+// The first of t and the tasks above it, as far as none is live, whose output event waits; 0 if there is none. Internal:
+// callers have shown the length, a tidy session, and that no other event can finish.
+fn first_waiting(s: &[u64], t: u64) -> u64
+    requires { ⌜ (words ≤ length (now s)) × Tidy (read (now s)) × OnlyAbove (read (now s)) t ⌝ }
+    ensures { λ r. ⌜ OnlyAbove (read (now (s .entry))) r ⌝ }
+{
+    let mut h = t;
+    while h != 0 {
+        if task_waits(s, h) {
+            return h;
+        }
+        h = done_creator(s, h);
+    }
+    0
+}
+
+// Whether the output event of task h waits and no descendant of h is live, which the mark tells. Internal, as `task_waits` is.
+fn task_finishes(s: &[u64], live: &[u64], h: u64) -> bool
+    requires { ⌜ (words ≤ length (now s)) × Tidy (read (now s)) × (h ≤ read (now s) Objects 0)
+        × (length (now live) ≡ 513) × Shows (now live) (busy (read (now s))) ⌝ }
+    ensures { λ r. ⌜ r ≡ test (finishes (read (now (s .entry))) (h + 1)) ⌝ }
+{
+    if live[h as usize] != 0 {
         return false;
     }
-    is_waiting(s, e)
+    task_waits(s, h)
 }
 
-// Marks e if it finishes. Internal: callers have shown the length, the handle and the marks.
-fn mark_finishing(s: &[u64], live: &[u64], fires: &mut [u64], e: u64)
-    requires { ⌜ (words ≤ length (now s)) × (1 ≤ e) × (e ≤ 512) × (length (now live) ≡ 513) × Shows (now live) (busy (read (now s)))
-        × (length (now fires) ≡ 513) × Shows (now fires) (finishing (read (now s)) e) ⌝ }
-    ensures { λ r. ⌜ Shows (now (fires .exit)) (finishing (read (now (s .entry))) (e + 1)) ⌝ }
+// Marks the event of task h if it finishes. Before and after, `found` is 0 where no event is marked, the event where it is one,
+// and 513 where there are more. Internal: callers have shown the marks and how far the climb has come.
+fn mark_task(s: &[u64], live: &[u64], fires: &mut [u64], found: u64, h: u64) -> u64
+    requires { ⌜ (words ≤ length (now s)) × Tidy (read (now s)) × (1 ≤ h) × (length (now live) ≡ 513) × Shows (now live) (busy (read (now s)))
+        × (length (now fires) ≡ 513) × Climbed (read (now s)) (now fires) found h ⌝ }
+    ensures { λ r. ⌜ Climbed (read (now (s .entry))) (now (fires .exit)) r (doneCreator (read (now (s .entry))) h) ⌝ }
 {
-    if is_finishing(s, live[(e - 1) as usize], e) {
-        fires[e as usize] = 1;
+    if task_finishes(s, live, h) {
+        fires[(h + 1) as usize] = 1;
+        if found == 0 {
+            return h + 1;
+        }
+        return 513;
     }
+    found
 }
 
-// Marks every event that finishes. Internal: callers lend marks that are all 0.
-fn mark_all_finishing(s: &[u64], live: &[u64], fires: &mut [u64])
+// Marks every event that finishes, by a climb from task t; the answer is what `mark_task` has found. Internal, as that is.
+fn mark_climbing(s: &[u64], live: &[u64], fires: &mut [u64], t: u64) -> u64
     requires { ⌜ (words ≤ length (now s)) × Tidy (read (now s)) × (length (now live) ≡ 513) × Shows (now live) (busy (read (now s)))
-        × (length (now fires) ≡ 513) × Shows (now fires) (λ a. never) ⌝ }
-    ensures { λ r. ⌜ Shows (now (fires .exit)) (finishes (read (now (s .entry)))) ⌝ }
+        × (length (now fires) ≡ 513) × Climbed (read (now s)) (now fires) 0 t ⌝ }
+    ensures { λ r. ⌜ Climbed (read (now (s .entry))) (now (fires .exit)) r 0 ⌝ }
 {
-    let n = session::get(s, Field::Objects, 0);
-    let mut e: u64 = 1;
-    while e <= n {
-        mark_finishing(s, live, fires, e);
-        e += 1;
+    let mut found: u64 = 0;
+    let mut h = t;
+    while h != 0 {
+        found = mark_task(s, live, fires, found, h);
+        h = done_creator(s, h);
     }
-}
-
-// For each handle 1 if it is an event that finishes, else 0. Internal: callers have shown the length and a tidy session.
-fn finish_marks(s: &[u64]) -> [u64; 513]
-    requires { ⌜ (words ≤ length (now s)) × Tidy (read (now s)) ⌝ }
-    ensures { λ r. ⌜ Shows r (finishes (read (now (s .entry)))) ⌝ }
-{
-    let live = ancestors::busy_marks(s);
-    let mut fires: [u64; 513] = [0; 513];
-    mark_all_finishing(s, &live, &mut fires);
-    fires
+    found
 }
 
 // Event e is fired if it is marked. Internal: callers have shown the lengths and the handle.
@@ -142,21 +168,6 @@ fn ready_all_marked(s: &mut [u64], fires: &[u64])
     }
 }
 
-// Whether some handle is marked. Internal: callers have shown the length.
-fn any_marked(fires: &[u64]) -> bool
-    requires { ⌜ length (now fires) ≡ 513 ⌝ }
-    ensures { λ r. ⌜ r ≡ test (someMarked (now (fires .entry))) ⌝ }
-{
-    let mut e: usize = 0;
-    while e < 513 {
-        if fires[e] == 1 {
-            return true;
-        }
-        e += 1;
-    }
-    false
-}
-
 // Fires the marked events. Internal: callers have shown the lengths, a tidy session and that no mark is past the count.
 fn fire_by_marks(s: &mut [u64], fires: &[u64])
     requires { ⌜ (words ≤ length (now s)) × Tidy (read (now s)) × (length (now fires) ≡ 513) × Within (now fires) (read (now s) Objects 0) ⌝ }
@@ -166,64 +177,32 @@ fn fire_by_marks(s: &mut [u64], fires: &[u64])
     ready_all_marked(s, fires);
 }
 
-// Fires the output events that wait and have no live descendant, with payload 0, which an open event has already. Internal:
-// callers have shown the length and a tidy session.
-fn fire_waiting(s: &mut [u64])
-    requires { ⌜ (words ≤ length (now s)) × Tidy (read (now s)) ⌝ }
+// Fires every output event that finishes, with payload 0, which an open event has already. Nearly always it is one or none;
+// several share one pass over the links. Internal, as `first_waiting` is.
+fn fire_above(s: &mut [u64], t: u64)
+    requires { ⌜ (words ≤ length (now s)) × Tidy (read (now s)) × OnlyAbove (read (now s)) t ⌝ }
     ensures { λ r. ⌜ Wrote (now (s .entry)) (now (s .exit)) (fireFinished (read (now (s .entry)))) ⌝ }
 {
-    let fires = finish_marks(s);
-    if any_marked(&fires) {
-        fire_by_marks(s, &fires);
+    let live = ancestors::busy_marks(s);
+    let mut fires: [u64; 513] = [0; 513];
+    let found = mark_climbing(s, &live, &mut fires, t);
+    if found == 0 {
+        return;
     }
+    if found <= names::MOST_OBJECTS {
+        effects::firing::fire_one(s, found, 0);
+        return;
+    }
+    fire_by_marks(s, &fires);
 }
 
-// Whether the output event of task h waits. The last handle is followed by none. Internal: callers have shown the length, a
-// tidy session and the handle.
-fn task_waits(s: &[u64], h: u64) -> bool
-    requires { ⌜ (words ≤ length (now s)) × Tidy (read (now s)) × (h ≤ read (now s) Objects 0) ⌝ }
-    ensures { λ r. ⌜ r ≡ test (waits (read (now (s .entry))) (h + 1)) ⌝ }
-{
-    if names::MOST_OBJECTS <= h {
-        return false;
-    }
-    is_waiting(s, h + 1)
-}
-
-// The creator of task h, or 0 if it is live: no task above a live one can be done. Internal, as `task_waits` is.
-fn done_creator(s: &[u64], h: u64) -> u64
-    requires { ⌜ (words ≤ length (now s)) × Tidy (read (now s)) × (h ≤ read (now s) Objects 0) ⌝ }
-    ensures { λ r. ⌜ r ≡ doneCreator (read (now (s .entry))) h ⌝ }
-{
-    let c = session::get(s, Field::TaskCreator, h as usize);
-    if session::get(s, Field::TaskState, c as usize) <= names::RUNNING {
-        return 0;
-    }
-    c
-}
-
-// Whether some output event may finish: only those of t and of the tasks above it are looked at, as far as none is live.
-// Internal: callers have shown the length, a tidy session, and that no other can.
-fn may_finish(s: &[u64], t: u64) -> bool
-    requires { ⌜ (words ≤ length (now s)) × Tidy (read (now s)) × OnlyAbove (read (now s)) t ⌝ }
-    ensures { λ r. ⌜ (r ≡ false → NoneFinish (read (now (s .entry)))) ⌝ }
-{
-    let mut h = t;
-    while h != 0 {
-        if task_waits(s, h) {
-            return true;
-        }
-        h = done_creator(s, h);
-    }
-    false
-}
-
-// Fires every output event that finishes, once task t has ended or was destroyed. Internal, as `may_finish` is.
+// Fires every output event that finishes, once task t has ended or was destroyed. Internal, as `first_waiting` is.
 pub fn fire_finished(s: &mut [u64], t: u64)
     requires { ⌜ (words ≤ length (now s)) × Tidy (read (now s)) × OnlyAbove (read (now s)) t ⌝ }
     ensures { λ r. ⌜ Wrote (now (s .entry)) (now (s .exit)) (fireFinished (read (now (s .entry)))) ⌝ }
 {
-    if may_finish(s, t) {
-        fire_waiting(s);
+    let h = first_waiting(s, t);
+    if h != 0 {
+        fire_above(s, h);
     }
 }

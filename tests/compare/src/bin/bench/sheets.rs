@@ -15,18 +15,15 @@ use crate::median;
 /// Runs of a sheet, of which the median counts.
 const ROUNDS: usize = 51;
 
-/// For steady records, where the time of one run is taken from that of another.
-const STEADY_ROUNDS: usize = 201;
-
 const SEED: u64 = 20_261_115;
 
-/// The generator's sheets come in sixteen themes: sheet 1 of them is short, sheet 8 as long as a sheet can be.
+/// The generator's sheets come in sixteen themes: sheet 1 of them is short, sheet 0 longer, sheet 8 as long as can be.
 const THEMES: u64 = 16;
-const SETS: [(&str, u64, u64); 2] = [("short", 1, 40), ("long", 8, 10)];
+const SETS: [(&str, u64, u64); 3] = [("short", 1, 40), ("middle", 0, 40), ("long", 8, 10)];
 
 /// A session's objects and links, and how many steady records follow.
 const STEADY: [(&str, u64, u64, [u64; 3]); 2] =
-    [("small", 32, 128, [500, 2_000, 5_000]), ("full", 512, 2_048, [500, 1_000, 2_000])];
+    [("small", 32, 128, [1_000, 3_000, 6_000]), ("full", 512, 2_048, [750, 1_500, 3_000])];
 
 pub fn print_tables() {
     println!("| sheets | of them | records | bytes a sheet | proved, records/s | second, records/s | proved / second |");
@@ -35,8 +32,8 @@ pub fn print_tables() {
         print_set(name, (0..count).map(|turn| random_sheet(SEED, turn * THEMES + theme)).collect());
     }
     println!();
-    println!("| session | objects | links | steady records | proved, ns/record | second, ns/record | proved / second |");
-    println!("|---|---|---|---|---|---|---|");
+    println!("| session | objects | links | steady records | proved, instructions/record | second, instructions/record |");
+    println!("|---|---|---|---|---|---|");
     for (name, objects, links, counts) in STEADY {
         print_steady(name, objects, links, &counts);
     }
@@ -44,28 +41,43 @@ pub fn print_tables() {
 
 /// The whole time of the processes, from their start to their end.
 fn print_set(name: &str, sheets: Vec<Vec<u8>>) {
-    let (mut times, mut records, mut bytes) = ([Duration::ZERO; 2], 0, 0);
-    for sheet in &sheets {
-        let (medians, lines) = measure(sheet, ROUNDS);
-        times.iter_mut().zip(medians).for_each(|(sum, median)| *sum += median);
+    let (mut times, mut records) = ([Duration::ZERO; 2], 0);
+    for (taken, lines) in measure(&sheets) {
+        times.iter_mut().zip(taken.map(median)).for_each(|(sum, median)| *sum += median);
         records += lines - 1;
-        bytes += sheet.len();
     }
     let [proved, second] = times.map(|time| records as f64 / time.as_secs_f64());
-    let (count, each) = (sheets.len(), bytes / sheets.len());
+    let count = sheets.len();
+    let each = sheets.iter().map(Vec::len).sum::<usize>() / count;
     println!("| {name} | {count} | {records} | {each} | {proved:.0} | {second:.0} | {:.2} |", proved / second);
 }
 
-/// What each record more costs on a session that keeps its size.
+/// What each record more costs on a session that keeps its size: in instructions, as callgrind counts them. In time it
+/// is less than two starts of a process differ.
 fn print_steady(name: &str, objects: u64, links: u64, counts: &[u64]) {
     let grown = Grown::to(11, objects, links);
-    let base = measure(&steady_sheet(&grown, 0), STEADY_ROUNDS).0;
+    let base = instructions(&steady_sheet(&grown, 0));
     for count in counts {
-        let times = measure(&steady_sheet(&grown, *count), STEADY_ROUNDS).0;
-        let more = |program: usize| (times[program].as_nanos() as f64 - base[program].as_nanos() as f64) / *count as f64;
-        let [proved, second] = [more(0), more(1)];
-        println!("| {name} | {objects} | {links} | {count} | {proved:.0} | {second:.0} | {:.2} |", second / proved);
+        let all = instructions(&steady_sheet(&grown, *count));
+        let [proved, second] = [0, 1].map(|program| (all[program] - base[program]) / *count as f64);
+        println!("| {name} | {objects} | {links} | {count} | {proved:.0} | {second:.0} |");
     }
+}
+
+/// The instructions of both programs on a sheet.
+fn instructions(sheet: &[u8]) -> [f64; 2] {
+    let file = env::temp_dir().join(format!("faltxigor-{}.sheet", process::id()));
+    fs::write(&file, sheet).expect("a file for the sheet");
+    let counts = programs().map(|program| {
+        let mut command = Command::new("valgrind");
+        command.args(["--tool=callgrind", "--callgrind-out-file=/dev/null"]).arg(program);
+        let output = command.stdin(File::open(&file).expect("the sheet")).output().expect("valgrind");
+        let told = String::from_utf8_lossy(&output.stderr).into_owned();
+        let count = told.lines().find_map(|line| line.split("Collected : ").nth(1)).expect("a count");
+        count.trim().parse().expect("a number")
+    });
+    fs::remove_file(&file).expect("the file goes");
+    counts
 }
 
 /// The calls that lead to the session and two steps up of a latch; then so many records that leave all sizes as they
@@ -91,19 +103,29 @@ fn place(grown: &Grown, suits: impl Fn(&Object) -> bool) -> u64 {
     1 + grown.session.objects.iter().position(suits).expect("such an object") as u64
 }
 
-/// The median times of both programs on a sheet, and how many lines they print: the same, which is looked at first.
-fn measure(sheet: &[u8], rounds: usize) -> ([Duration; 2], usize) {
-    let file = env::temp_dir().join(format!("faltxigor-{}.sheet", process::id()));
-    fs::write(&file, sheet).expect("a file for the sheet");
+/// Of each sheet the times of both programs, and how many lines they print: the same, which is looked at first. In each
+/// round every sheet has its turn, so that a busy machine slows all of them.
+fn measure(sheets: &[Vec<u8>]) -> Vec<([Vec<Duration>; 2], usize)> {
+    let folder = env::temp_dir().join(format!("faltxigor-{}", process::id()));
+    fs::create_dir_all(&folder).expect("a folder for the sheets");
+    let files: Vec<PathBuf> = (0..sheets.len()).map(|place| folder.join(format!("{place}.sheet"))).collect();
+    files.iter().zip(sheets).for_each(|(file, sheet)| fs::write(file, sheet).expect("a file for the sheet"));
     let programs = programs();
-    let printed = [0, 1].map(|program| run(&programs[program], &file).1);
-    assert!(printed[0] == printed[1], "the programs print other lines");
-    let mut times = [vec![], vec![]];
-    for _ in 0..rounds {
-        times.iter_mut().zip(&programs).for_each(|(times, program)| times.push(run(program, &file).0));
+    let lines: Vec<usize> = files.iter().map(|file| lines_of(&programs, file)).collect();
+    let mut times = vec![[vec![], vec![]]; sheets.len()];
+    for _ in 0..ROUNDS {
+        for (file, times) in files.iter().zip(&mut times) {
+            times.iter_mut().zip(&programs).for_each(|(times, program)| times.push(run(program, file).0));
+        }
     }
-    fs::remove_file(&file).expect("the file goes");
-    (times.map(median), printed[0].iter().filter(|byte| **byte == b'\n').count())
+    fs::remove_dir_all(&folder).expect("the folder goes");
+    times.into_iter().zip(lines).collect()
+}
+
+fn lines_of(programs: &[PathBuf; 2], file: &Path) -> usize {
+    let printed = [0, 1].map(|program| run(&programs[program], file).1);
+    assert!(printed[0] == printed[1], "the programs print other lines");
+    printed[0].iter().filter(|byte| **byte == b'\n').count()
 }
 
 fn programs() -> [PathBuf; 2] {

@@ -1,15 +1,13 @@
 use Prim.Native.Nat.{_≤_}
-use mathlib.Core.Path.{sym, subst, _∙_}
-use mathlib.Core.Bool.{Bool}
+use mathlib.Core.Path.{sym, _∙_}
 use native.Mathlib.Omega.{arith}
-use lib.Dec.{T}
 use lib.ListN.{length}
 use Rattle.session.specs.Table.{read, words}
 use Rattle.rules.specs.FormulaLaws.{failed}
 use Rattle.holding.specs.Tidy.{Tidy}
-use Rattle.holding.specs.Climb.{OnlyAbove, climbs, done-lower, none-finish}
-use Rattle.holding.proofs.finishing.may_finish.Statement.{statement}
-use Rattle.holding.proofs.finishing.may_finish.Tie as tie
+use Rattle.holding.specs.Climb.{OnlyAbove, climbs, done-lower}
+use Rattle.holding.proofs.finishing.first_waiting.Statement.{statement}
+use Rattle.holding.proofs.finishing.first_waiting.Tie as tie
 
 abbrev Inv-loop : tie.InvT-loop
 Inv-loop s t h₀ h = (words ≤ length s) × Tidy (read s) × OnlyAbove (read s) h
@@ -24,7 +22,7 @@ task-waits-requires : tie.Need-task-waits-requires Inv-loop μ-loop
 task-waits-requires c κs = let i = c .before .loop .inv in (i .0, i .1, i .2 .known)
 
 returns : tie.Need-returns Inv-loop μ-loop
-returns c q = absurd (subst (λ (b : Bool). T b) q tt)
+returns c = c .before .before .before .loop .inv .2
 
 done-creator-requires : tie.Need-done-creator-requires Inv-loop μ-loop
 done-creator-requires c κs = let i = c .before .before .before .loop .inv in (i .0, i .1, i .2 .known)
@@ -44,10 +42,10 @@ loop-again c =
     (i .0, i .1, climbs _ (i .1) (l .h) (i .2 .known) some (i .2) (failed _ (sym (c .before .before .task-waits .ensures) ∙ c .before .if1 .left)))
 
 returns-2 : tie.Need-returns-2 Inv-loop μ-loop
-returns-2 c q = let l = c .before .loop in none-finish _ (rw (c .loop-test .left) at (l .inv .2))
+returns-2 c = let l = c .before .loop in rw (c .loop-test .left) at (l .inv .2)
 
-pub may-finish-spec : {M : Type 1} → statement M
-may-finish-spec =
+pub first-waiting-spec : {M : Type 1} → statement M
+first-waiting-spec =
     tie.close
     (tie.spec
     Inv-loop
