@@ -7,3 +7,4 @@ pub mod Closing
 pub mod Settled
 pub mod NeverFull
 pub mod SheetDemand
+pub mod SheetContents

@@ -124,7 +124,7 @@ pub record Spare (sheet : List ℕ) (at k : ℕ) (l : Lines) : Type 0 where
   pub bytes : 2 * l .used + 11 * (length sheet - at) + 128 ≤ 2 * length (l .bytes)
 
 -- and it is there before the next one
-spare-on : (sheet : List ℕ) (at k : ℕ) (s : Session) (l : Lines) → Spare sheet at k l → at < length sheet → holds (sound s) → recordAt sheet at .refused ≡ 0
+pub spare-on : (sheet : List ℕ) (at k : ℕ) (s : Session) (l : Lines) → Spare sheet at k l → at < length sheet → holds (sound s) → recordAt sheet at .refused ≡ 0
     → Spare sheet (recordAt sheet at .next) (k + 1) (withLine l (k + 1) (step s (recordAt sheet at .operation) .refused) (step s (recordAt sheet at .operation) .made))
 spare-on sheet at k s l g b is z =
     let op = recordAt sheet at .operation in
@@ -192,6 +192,11 @@ run-closable sheet (suc n) at k s l g = ends (decide (length sheet ≼ at)) (run
         below : (length sheet ≤ at → ⊥) → at < length sheet
         below f = omega arith
 
+-- it is there before the first record
+pub first-spare : (sheet : List ℕ) (l : Lines) → length sheet < 100000 → 2 * l .used + 11 * length sheet + 128 ≤ 2 * length (l .bytes) → headRefusal sheet ≡ 0
+    → Spare sheet (firstRecord sheet) 0 l
+first-spare sheet l small h z = record { small = small; count = omega arith; inside = head-inside sheet z; bytes = omega arith }
+
 -- The theorem, for any session: 11 bytes for two bytes of the sheet and 64 more are enough.
 pub never-full : (sheet : List ℕ) (s : Session) (l : Lines) → length sheet < 100000 → 2 * l .used + 11 * length sheet + 128 ≤ 2 * length (l .bytes)
     → Closable (runSheet sheet s l)
@@ -206,8 +211,7 @@ never-full sheet s l small h = sounds (decide (sound s))
         rw (sheet-refused sheet s l room i f) (closable-by s l 0 (headRefusal sheet) (omega arith) (lit< tt) (omega arith) (head-not-full sheet))
     heads i (it-does z) =
         rw (sheet-runs sheet s l room i z)
-        (run-closable sheet (length sheet) (firstRecord sheet) 0 s l
-        (record { small = small; count = omega arith; inside = head-inside sheet z; bytes = omega arith }))
+        (run-closable sheet (length sheet) (firstRecord sheet) 0 s l (first-spare sheet l small h z))
 
     sounds : Case (sound s) → Closable (runSheet sheet s l)
     sounds (it-does-not f) = rw (sheet-unsound sheet s l room f) (closable-by s l 0 2 (omega arith) (lit< tt) (lit< tt) (λ e. omega arith))
