@@ -23,13 +23,21 @@ use Rattle.holding.specs.Finish.{Marks, waits, waits-of, one-fires, fire
 use Rattle.holding.specs.Parts.{either-way, outputDestroyed, outputFired, ending}
 
 -- a is h, or stands above it by the creators given
-abbrev Reached : (ℕ → ℕ) → ℕ → ℕ → Type 0
+abbrev pub Reached : (ℕ → ℕ) → ℕ → ℕ → Type 0
 Reached c h a = (1 ≤ h) × ((h ≡ a) ⊎ holds (under c h h a))
 
 -- no output event finishes but those of h, which is at most the last handle, and of the tasks above it
 pub record OnlyAbove (s : Session) (h : ℕ) : Type 0 where
   pub known : h ≤ s Objects 0
   pub reached : (e : ℕ) → holds (finishes s e) → Reached (s TaskCreator) h (e - 1)
+
+-- what finishes and is reached from t is reached from h too, which is at most the last handle
+pub record Narrowed (s : Session) (t h : ℕ) : Type 0 where
+  pub known : h ≤ s Objects 0
+  pub reached : (e : ℕ) → holds (finishes s e) → Reached (s TaskCreator) t (e - 1) → Reached (s TaskCreator) h (e - 1)
+
+pub only-narrowed : (s : Session) (t h : ℕ) → OnlyAbove s t → Narrowed s t h → OnlyAbove s h
+only-narrowed s t h o n = record { known = n .known; reached = λ e f. n .reached e f (o .reached e f) }
 
 -- A climb has come to h: what is marked finishes, and what finishes is marked or reached from h. found is 0 where nothing is
 -- marked, the event where it is one, and 513 where there may be more.
@@ -104,7 +112,7 @@ module _ (s : Session) (x : Tidy s) (h : ℕ) (l : h ≤ s Objects 0) where
       go (inr u) = idle (c h, (let b = creator-made in omega arith), ((x .frame .makers h l (y .0), live), u))
 
   -- what finishes and is reached from h is the event of h, of which something else may be known, or is reached from one step up
-  step : {B : Type 0} (e : ℕ) → holds (finishes s e) → Reached c h (e - 1) → (e ≡ h + 1 → B) → B ⊎ Reached c (doneCreator s h) (e - 1)
+  pub step : {B : Type 0} (e : ℕ) → holds (finishes s e) → Reached c h (e - 1) → (e ≡ h + 1 → B) → B ⊎ Reached c (doneCreator s h) (e - 1)
   step {B} e f r own = go (r .1)
     where
       up : Reached c (c h) (e - 1) → Case (s TaskState (c h) ≼ running) → Reached c (doneCreator s h) (e - 1)
@@ -116,10 +124,10 @@ module _ (s : Session) (x : Tidy s) (h : ℕ) (l : h ≤ s Objects 0) where
       go (inr u) = inr (up (above-creator c (s Objects 0) (x .frame .falls) h (e - 1) l u) (decide (s TaskState (c h) ≼ running)))
 
   -- one step up where the event of h does not wait
-  pub climbs : 1 ≤ h → OnlyAbove s h → (holds (waits s h) → ⊥) → OnlyAbove s (doneCreator s h)
-  climbs m o n = record {
+  pub climbs : (t : ℕ) → 1 ≤ h → Narrowed s t h → (holds (waits s h) → ⊥) → Narrowed s t (doneCreator s h)
+  climbs t m o n = record {
     known = let d = done-lower m in omega arith;
-    reached = λ e f. go e (step e f (o .reached e f) (λ q. n (waits-of s h (subst (λ (i : ℕ). holds (finishes s i)) q f))));
+    reached = λ e f r. go e (step e f (o .reached e f r) (λ q. n (waits-of s h (subst (λ (i : ℕ). holds (finishes s i)) q f))));
   }
     where
       go : (e : ℕ) → ⊥ ⊎ Reached c (doneCreator s h) (e - 1) → Reached c (doneCreator s h) (e - 1)

@@ -6,3 +6,4 @@ pub mod Tidy
 pub mod Finish
 pub mod Parts
 pub mod Climb
+pub mod Alone

@@ -2,18 +2,20 @@
 use session::Field;
 use session::names;
 ghost use mathlib.Core.Path.{_≡_};
+ghost use mathlib.Core.Bool.{true};
 ghost use Prim.Native.Nat.{_+_, _≤_, _<_};
 ghost use lib.ListN.{length};
 ghost use Rattle.session.specs.Table.{Wrote, read, put, words};
 ghost use Rattle.session.specs.declared.Field.the-variants.{Objects, EventState, LinkSource, LinkState};
-ghost use Rattle.rules.specs.Formula.{test};
+ghost use Rattle.rules.specs.Formula.{holds, test};
 ghost use Rattle.rules.specs.Reading.{busy};
 ghost use Rattle.rules.specs.Effects.{finishes, fireFinished};
 ghost use Rattle.ancestors.specs.Above.{Shows};
 ghost use Rattle.holding.specs.Rows.{row};
 ghost use Rattle.holding.specs.Tidy.{Tidy};
 ghost use Rattle.holding.specs.Finish.{waits, fireRow, statesFired, readyRow, linksReady, Within};
-ghost use Rattle.holding.specs.Climb.{OnlyAbove, Climbed, doneCreator};
+ghost use Rattle.holding.specs.Climb.{OnlyAbove, Narrowed, Climbed, doneCreator};
+ghost use Rattle.holding.specs.Alone.{Alone, childNear, childless};
 
 // Whether task h is an ended finish task with an open output event, which is the next handle; the last handle is followed by
 // none. That few tasks have ended is looked at first. Internal: callers have shown the length, a tidy session and the handle.
@@ -55,11 +57,11 @@ fn done_creator(s: &[u64], h: u64) -> u64
     c
 }
 
-// The first of t and the tasks above it, as far as none is live, whose output event waits; 0 if there is none. Internal:
-// callers have shown the length, a tidy session, and that no other event can finish.
+// The first of t and the tasks above it, as far as none is live, whose output event waits; 0 if there is none. Internal, as
+// `task_waits` is.
 fn first_waiting(s: &[u64], t: u64) -> u64
-    requires { ⌜ (words ≤ length (now s)) × Tidy (read (now s)) × OnlyAbove (read (now s)) t ⌝ }
-    ensures { λ r. ⌜ OnlyAbove (read (now (s .entry))) r ⌝ }
+    requires { ⌜ (words ≤ length (now s)) × Tidy (read (now s)) × (t ≤ read (now s) Objects 0) ⌝ }
+    ensures { λ r. ⌜ Narrowed (read (now (s .entry))) t r × ((r ≡ 0 → ⊥) → holds (waits (read (now (s .entry))) r)) ⌝ }
 {
     let mut h = t;
     while h != 0 {
@@ -178,7 +180,7 @@ fn fire_by_marks(s: &mut [u64], fires: &[u64])
 }
 
 // Fires every output event that finishes, with payload 0, which an open event has already. Nearly always it is one or none;
-// several share one pass over the links. Internal, as `first_waiting` is.
+// several share one pass over the links. Internal, as `fire_finished` is.
 fn fire_above(s: &mut [u64], t: u64)
     requires { ⌜ (words ≤ length (now s)) × Tidy (read (now s)) × OnlyAbove (read (now s)) t ⌝ }
     ensures { λ r. ⌜ Wrote (now (s .entry)) (now (s .exit)) (fireFinished (read (now (s .entry)))) ⌝ }
@@ -196,13 +198,70 @@ fn fire_above(s: &mut [u64], t: u64)
     fire_by_marks(s, &fires);
 }
 
-// Fires every output event that finishes, once task t has ended or was destroyed. Internal, as `first_waiting` is.
+// Whether one of the eight handles from d on was made by task h. The bound is constant, so that the eight tests stand in a
+// row. Internal: callers have shown the length and the handles.
+fn has_child(s: &[u64], h: u64, d: usize) -> bool
+    requires { ⌜ (words ≤ length (now s)) × (d ≤ 505) ⌝ }
+    ensures { λ r. ⌜ r ≡ test (childNear (read (now (s .entry))) h d) ⌝ }
+{
+    let mut k: usize = 0;
+    while k < 8 {
+        if session::get(s, Field::TaskCreator, d + k) == h {
+            return true;
+        }
+        k += 1;
+    }
+    false
+}
+
+// Whether no task was made by h: whoever was made by it has a higher handle. Internal, as `task_waits` is; and h is not 0.
+fn is_childless(s: &[u64], h: u64) -> bool
+    requires { ⌜ (words ≤ length (now s)) × Tidy (read (now s)) × (1 ≤ h) × (h ≤ read (now s) Objects 0) ⌝ }
+    ensures { λ r. ⌜ r ≡ test (childless (read (now (s .entry))) h) ⌝ }
+{
+    let n = session::get(s, Field::Objects, 0) as usize;
+    let mut d = h as usize;
+    while d + 7 <= n {
+        if has_child(s, h, d) {
+            return false;
+        }
+        d += 8;
+    }
+    while d <= n {
+        if session::get(s, Field::TaskCreator, d) == h {
+            return false;
+        }
+        d += 1;
+    }
+    true
+}
+
+// Whether it is plain that the event of task h, which waits, finishes and no other does: nothing above h waits, and h made no
+// task. Internal: callers have shown the length, a tidy session, that h waits, and that only what is above it can finish.
+fn fires_alone(s: &[u64], h: u64) -> bool
+    requires { ⌜ (words ≤ length (now s)) × Tidy (read (now s)) × (1 ≤ h) × OnlyAbove (read (now s)) h × holds (waits (read (now s)) h) ⌝ }
+    ensures { λ r. ⌜ (r ≡ true → Alone (read (now (s .entry))) (h + 1)) ⌝ }
+{
+    let c = done_creator(s, h);
+    if first_waiting(s, c) != 0 {
+        return false;
+    }
+    is_childless(s, h)
+}
+
+// Fires every output event that finishes, once task t has ended or was destroyed. Most often it is one, and no marks are
+// needed to tell. Internal: callers have shown the length, a tidy session, and that no other event can finish.
 pub fn fire_finished(s: &mut [u64], t: u64)
     requires { ⌜ (words ≤ length (now s)) × Tidy (read (now s)) × OnlyAbove (read (now s)) t ⌝ }
     ensures { λ r. ⌜ Wrote (now (s .entry)) (now (s .exit)) (fireFinished (read (now (s .entry)))) ⌝ }
 {
     let h = first_waiting(s, t);
-    if h != 0 {
-        fire_above(s, h);
+    if h == 0 {
+        return;
     }
+    if fires_alone(s, h) {
+        effects::firing::fire_one(s, h + 1, 0);
+        return;
+    }
+    fire_above(s, h);
 }
