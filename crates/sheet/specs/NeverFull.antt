@@ -217,11 +217,11 @@ never-full sheet s l small h = sounds (decide (sound s))
     sounds (it-does-not f) = rw (sheet-unsound sheet s l room f) (closable-by s l 0 2 (omega arith) (lit< tt) (lit< tt) (λ e. omega arith))
     sounds (it-does i) = heads i (decide (headRefusal sheet ≐ 0))
 
--- The sheet program reads 32,768 bytes at most and lends 180,288 for the lines, of which none is used, and memory for a session:
--- its run "never meets 1", and its last line is written.
+-- The sheet program reads 32,768 bytes at most, and lends memory for a session and, unused, 11 bytes for the lines for two of
+-- the sheet's and 64 more: its run "never meets 1", and its last line is written.
 pub never-meets-1 : (sheet before after lines lines′ : List ℕ) (e : Ended) (s : Session)
     → length sheet ≤ 32768
-    → 180288 ≤ length lines
+    → 11 * length sheet + 128 ≤ 2 * length lines
     → words ≤ length before
     → Ran sheet before after lines lines′ 0 e s
     → (e .ending ≡ 1 → ⊥) × (closed after (linesOf lines′ (e .used)) ≡ withLast after (linesOf lines′ (e .used)))
