@@ -1,7 +1,7 @@
 -- Whether an object is gone, by its kind.
 use Prim.Native.Nat.{ℕ, _≤_}
 use mathlib.Core.Path.{_≡_}
-use mathlib.Core.Logic.{_⊎_, inl, inr}
+use mathlib.Core.Logic.{inl, inr}
 use native.Mathlib.Omega.{arith}
 use Rattle.session.specs.Table.{Session}
 use Rattle.session.specs.declared.Field.the-variants.{Kind, TemplateState, TaskState, EventState, EventType, BlockState}

@@ -1,14 +1,13 @@
 -- What a sound session says of its counts, and of who holds blocks by slots.
-use Prim.Native.Nat.{ℕ, _+_, _/_, _%_, _≤_, _<_}
+use Prim.Native.Nat.{ℕ, _/_, _%_, _≤_, _<_}
 use mathlib.Core.Path.{_≡_, subst, sym}
 use mathlib.Core.Logic.{_⊎_, inl, inr}
 use native.Mathlib.Omega.{arith}
 use Rattle.session.specs.Table.{Session}
-use Rattle.session.specs.declared.Field.the-variants.{Objects, Links, Kind, TaskState, TaskSlots, SlotMark, SlotPayload}
+use Rattle.session.specs.declared.Field.the-variants.{Objects, Links, TaskState, TaskSlots, SlotMark, SlotPayload}
 use Rattle.session.specs.Names.{mostObjects, mostLinks, task, granted, running, held}
 use Rattle.rules.specs.Formula.{holds}
 use Rattle.rules.specs.Reading.{at, made}
-use Rattle.rules.specs.Checks.{orNull}
 use Rattle.rules.specs.Sound.{sound, soundUsed, counts, objects, slots, slot, states}
 use Rattle.laws.specs.SlotPlaces.{few-slots, place-split, place-low}
 
@@ -37,10 +36,6 @@ few-links s h = sound-counts s h .1 .1
 -- a handle that was made, or is null, is a place of the fields
 pub made-low : (s : Session) → holds (sound s) → (h : ℕ) → holds (made s h) → h ≤ mostObjects
 made-low s o h m = let few = few-objects s o in omega arith
-
-pub or-null-low : (s : Session) → holds (sound s) → (h : ℕ) → holds (orNull s (made s) h) → h ≤ mostObjects
-or-null-low s o h (inl z) = omega arith
-or-null-low s o h (inr m) = made-low s o h m
 
 -- a task has at most 16 slots
 pub sound-few-slots : (s : Session) → holds (sound s) → (t : ℕ) → t ≤ s Objects 0 → s TaskSlots t ≤ 16

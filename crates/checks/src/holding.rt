@@ -8,7 +8,7 @@ ghost use Prim.Native.Nat.{_≤_};
 ghost use lib.ListN.{length};
 ghost use Rattle.session.specs.Table.{read, words, at};
 ghost use Rattle.rules.specs.Formula.{test, Formula.some};
-ghost use Rattle.rules.specs.Reading.{slotHolds, holdsMade, holdsBlock};
+ghost use Rattle.rules.specs.Reading.{slotHolds, holdsBlock};
 
 // Slot j of t holds block b.
 fn slot_holds(s: &[u64], t: u64, j: u64, b: u64) -> bool

@@ -1,7 +1,6 @@
 // The operations, each with its checks and then its effect. Internal: callers have shown the length and a sound session.
 use rules::Answer;
 use rules::refusals;
-ghost use mathlib.Core.Path.{_≡_};
 ghost use Prim.Native.Nat.{_+_, _≤_, _<_};
 ghost use lib.ListN.{length};
 ghost use Rattle.session.specs.Table.{read, words};

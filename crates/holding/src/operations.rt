@@ -1,5 +1,4 @@
 // Operations 7, 8, 10, 11 and 12 on a sound session whose checks are met. Internal: the engine has shown both before it calls.
-ghost use mathlib.Core.Path.{_≡_};
 ghost use Prim.Native.Nat.{_≤_};
 ghost use lib.ListN.{length};
 ghost use Rattle.session.specs.Table.{Wrote, read, words};

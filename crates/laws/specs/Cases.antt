@@ -78,10 +78,6 @@ unfolding answer rules
 answer-at s o k l c = ap (λ (r : Rule). refusal (r .asks s o)) (getD-moved rules (o .code) k _ (ruleOf o) c l)
 
 -- a move is accepted where its checks are met
-pub takes-delivery : (s : Session) (o : Operation) → o .code ≡ 9 → met (deliverChecks s (arg o 0)) → answer s o ≡ 0
-unfolding rules
-takes-delivery s o c m = answer-at s o 9 (omega arith) c ∙ none-fails (deliverChecks s (arg o 0)) m
-
 pub takes-grant : (s : Session) (o : Operation) → o .code ≡ 10 → met (grantChecks s (arg o 0)) → answer s o ≡ 0
 unfolding rules
 takes-grant s o c m = answer-at s o 10 (omega arith) c ∙ none-fails (grantChecks s (arg o 0)) m

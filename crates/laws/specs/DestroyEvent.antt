@@ -1,11 +1,11 @@
 -- The destroying of an event that is open or fired: its state says whether it had fired, and its open links are cut. All
 -- rules but that of the outputs survive it; that one too where the event is no output event.
-use Prim.Native.Nat.{ℕ, _+_, _≤_, _<_}
+use Prim.Native.Nat.{ℕ, _+_, _≤_}
 use mathlib.Core.Path.{_≡_, refl, ap, sym, _∙_}
 use mathlib.Core.Logic.{_⊎_, inl, inr}
 use native.Mathlib.Omega.{arith}
 use Rattle.session.specs.Table.{Session, put, change}
-use Rattle.session.specs.declared.Field.the-variants.{Objects, Kind, EventState, EventType, EventPayload, EventTally, LinkSource, LinkState}
+use Rattle.session.specs.declared.Field.the-variants.{Kind, EventState, EventType, EventPayload, EventTally, LinkSource, LinkState}
 use Rattle.rules.specs.Formula.{Formula, holds, choose, Formula._≐_, Formula._and_}
 use Rattle.rules.specs.FormulaLaws.{Case, decide, choose-yes, choose-no, Case.it-does, Case.it-does-not}
 use Rattle.session.specs.Names.{event, eventOpen, fired, destroyedUnfired, destroyedFired, linkOpen, delivered, cut, latch, output, evenTally}

@@ -8,7 +8,7 @@ use Rattle.session.specs.declared.Field.the-variants.{Objects, Links, Kind, Tas
 use Rattle.rules.specs.Formula.{Formula, holds, choose, not, _iff_, Formula._≐_, Formula._≼_, Formula._and_, Formula._or_, Formula.each, Formula.some}
 use Rattle.rules.specs.FormulaLaws.{Case, decide, choose-yes, choose-no, Case.it-does, Case.it-does-not}
 use Rattle.session.specs.Names.{fired, destroyedUnfired, waiting, resolved, running, granted, ended, task, taskDestroyed, satisfied, held, delivered}
-use Rattle.rules.specs.Reading.{made, at, busy, isHeld, isGone}
+use Rattle.rules.specs.Reading.{made, at, busy, isHeld}
 use Rattle.rules.specs.Effects.{satisfySlot}
 use Rattle.rules.specs.Sound.{isPayload, taskPart, slot, state, full, leadsTo, noSlot, unclaimed, claimed, counts, objects, roots, creators, creator, outputs, outputOf, slots, links, oneLink, states, blocks, compatible, latches, dropped, unused, settled}
 use Rattle.laws.specs.Places.{Places, places, put-here, put-there, Places.one, Places.two}

@@ -5,12 +5,12 @@ use mathlib.Core.Path.{_≡_, refl, ap, sym, _∙_}
 use mathlib.Core.Logic.{_⊎_, inl, inr}
 use native.Mathlib.Omega.{arith}
 use Rattle.session.specs.Table.{Session}
-use Rattle.session.specs.declared.Field.the-variants.{Objects, Links, Kind, TaskState, TaskSlots, BlockState, BlockCreator, BlockHeld, SlotMark, SlotPayload, LinkState}
+use Rattle.session.specs.declared.Field.the-variants.{Objects, Kind, TaskState, TaskSlots, BlockState, BlockCreator, BlockHeld, SlotMark, SlotPayload}
 use Rattle.rules.specs.Formula.{Formula, holds, not, Formula._≐_, Formula._≼_, Formula._and_, Formula._or_, Formula.each, Formula.some}
 use Rattle.rules.specs.FormulaLaws.{Case, decide, Case.it-does, Case.it-does-not}
 use Rattle.session.specs.Names.{task, block, waiting, resolved, granted, running, ended, held, doomed, blockDestroyed, ready}
 use Rattle.rules.specs.Reading.{at, made, isKind, isGone, isHeld}
-use Rattle.rules.specs.Checks.{orNull, remains, slotFree, grantChecks, startChecks, endChecks, deliverChecks}
+use Rattle.rules.specs.Checks.{orNull, remains, slotFree, grantChecks, startChecks, endChecks}
 use Rattle.rules.specs.Sound.{isPayload, kept, slots, slot, unclaimed, claimed, blockPart, taskPart}
 use Rattle.laws.specs.Kept.{Rest, rest-of}
 use Rattle.laws.specs.Met.{met}
@@ -186,6 +186,3 @@ startable s t m e q = (m, (e, ((λ g. let h = task-gone s t e g in omega arith),
 
 pub endable : (s : Session) (t : ℕ) → holds (made s t) → holds (isKind s task t) → s TaskState t ≡ running → met (endChecks s t 0)
 endable s t m e q = ((m, inl refl), ((e, inl refl), (((λ g. let h = task-gone s t e g in omega arith), inl refl), (q, tt))))
-
-pub deliverable : (s : Session) (l : ℕ) → 1 ≤ l → l ≤ s Links 0 → s LinkState l ≡ ready → met (deliverChecks s l)
-deliverable s l a b e = ((a, b), (e, tt))

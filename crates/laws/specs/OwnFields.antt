@@ -1,6 +1,6 @@
 -- What an operation is takes in its code and the fields that its code has: the fields past them change nothing.
 use Prim.Native.Nat.{ℕ, zero, suc, _+_, _<_}
-use mathlib.Core.Path.{_≡_, refl, ap, sym, _∙_}
+use mathlib.Core.Path.{_≡_, refl, ap}
 use mathlib.Core.List.{List}
 use native.Mathlib.Omega.{arith}
 use lib.ListN.{getD}
@@ -12,7 +12,7 @@ use Rattle.rules.specs.Formula.{choose, Formula._≐_}
 use Rattle.rules.specs.Checks.{refusal, templateChecks, taskChecks, eventChecks, blockChecks, dependenceChecks, satisfyChecks, releaseChecks, destroyChecks, deliverChecks, grantChecks, startChecks, endChecks, taskSlots, makesLink}
 use Rattle.rules.specs.Effects.{newTemplate, newEvent, makeTask, newBlock, depend, satisfyEvent, release, destroy, deliver, grant, start, end}
 use Rattle.rules.specs.Sound.{sound}
-use Rattle.rules.specs.Step.{Reply, arg, rules, ruleOf, answer, after, outcome, step}
+use Rattle.rules.specs.Step.{rules, ruleOf, answer, after, outcome, step}
 
 abbrev with-fields : ℕ → List ℕ → Operation
 with-fields code fields = record { code = code; fields = fields }

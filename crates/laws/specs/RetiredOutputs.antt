@@ -6,7 +6,7 @@ use native.Mathlib.Omega.{arith}
 use Rattle.session.specs.Table.{Session, put}
 use Rattle.session.specs.declared.Field.the-variants.{Objects, Kind, TaskState, TaskFinish, TaskOutput, EventState, EventType}
 use Rattle.rules.specs.Formula.{holds}
-use Rattle.session.specs.Names.{task, event, running, eventOpen, fired, destroyedUnfired, destroyedFired, output}
+use Rattle.session.specs.Names.{task, event, running, eventOpen, output}
 use Rattle.rules.specs.Reading.{made, isKind, busy}
 use Rattle.rules.specs.Sound.{outputs, outputOf, taskPart}
 use Rattle.laws.specs.Places.{Places, places, put-here, Places.one, Places.two}

@@ -1,7 +1,6 @@
 -- A satisfaction (operation 6) keeps a session kept.
 use Prim.Native.Nat.{ℕ}
-use mathlib.Core.Path.{_≡_}
-use mathlib.Core.Logic.{_⊎_, inl, inr}
+use mathlib.Core.Logic.{inl, inr}
 use Rattle.session.specs.Table.{Session}
 use Rattle.rules.specs.Formula.{holds}
 use Rattle.session.specs.Names.{block}

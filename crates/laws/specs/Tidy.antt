@@ -34,10 +34,6 @@ tidy-satisfies : (b : Book) (d j p : ℕ) → Tidy b → Tidy (satisfies b d j p
 unfolding satisfies enter test
 tidy-satisfies b d j p x = chosen Tidy (b Column.Kind d ≐ task) _ _ (λ h. x) (λ h. chosen Tidy ((b Column.EventType d ≐ latch) or (b Column.Satisfied d ≐ 1)) _ _ (λ g. x) (λ g. x))
 
-tidy-strike : (b : Book) (e : ℕ) → Tidy b → Tidy (strike b e)
-unfolding strike test
-tidy-strike b e x = x
-
 tidy-destroy : (b : Book) (h : ℕ) → Tidy b → Tidy (enterDestroy b h)
 unfolding enterDestroy strike enter test
 tidy-destroy b h x =

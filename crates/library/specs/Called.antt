@@ -1,5 +1,5 @@
 -- A single call in numbers: the refusal and what was made.
-use Prim.Native.Nat.{ℕ, _≤_, _<_}
+use Prim.Native.Nat.{ℕ}
 use mathlib.Core.Path.{_≡_, refl}
 use mathlib.Core.Bool.{Bool, true, false}
 use mathlib.Core.List.{List, [], _∷_}
@@ -10,7 +10,7 @@ use Rattle.rules.specs.declared.Operation.{Operation}
 use Rattle.rules.specs.declared.Answer.{Answer}
 use Rattle.rules.specs.declared.Answer.the-variants.{Accepted, Refused}
 use Rattle.rules.specs.Answer.{refusedOf, madeOf}
-use Rattle.rules.specs.Step.{Reply, step}
+use Rattle.rules.specs.Step.{step}
 use Rattle.engine.specs.Played.{Replied, Answered}
 
 abbrev pub operation : ℕ → ℕ → ℕ → ℕ → ℕ → ℕ → Operation

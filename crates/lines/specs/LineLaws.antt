@@ -11,7 +11,7 @@ use lib.Seq.{take-all, drop-length, drop-drop}
 use borrow.Rule.Slice.PartMut.{putMid, midOf, postOf, post-is}
 use borrow.Author.Tests.{ltb-true, ltb-false}
 use Rattle.number.specs.Number.{splice}
-use Rattle.number.specs.Splice.{splice-then, splice-one, splice-length, splice-is}
+use Rattle.number.specs.Splice.{splice-then, splice-one, splice-length}
 use Rattle.decimal.specs.Decimal.{decimal}
 use Rattle.decimal.specs.DecimalLaws.{digits-one, digits-several}
 use Rattle.lines.specs.Line.{marked, line, space, newline}

@@ -1,6 +1,6 @@
 -- How the text of a sheet is put together, and how long it is.
-use Prim.Native.Nat.{ℕ, zero, suc, _+_, _-_, _*_, _≤_, _<_}
-use mathlib.Core.List.{List, [], _∷_, _++_, append-assoc, append-nil}
+use Prim.Native.Nat.{ℕ, zero, suc, _+_, _-_, _≤_, _<_}
+use mathlib.Core.List.{List, [], _∷_, _++_, append-assoc}
 use mathlib.Core.Path.{_≡_, refl, ap, sym, _∙_}
 use native.Mathlib.Omega.{arith}
 use native.Mathlib.Numerals.{add-one}
@@ -16,10 +16,10 @@ use Rattle.rules.specs.Step.{arg}
 use Rattle.record.specs.declared.Record.{Record}
 use Rattle.record.specs.Reading.{fieldCount, recordAt}
 use Rattle.record.specs.Laws.{Forward, record-forward}
-use Rattle.record.specs.Sheet.{Contents, stopped, followed, recordsFrom, headAt}
+use Rattle.record.specs.Sheet.{stopped, followed, recordsFrom, headAt}
 use Rattle.record.specs.declared.Place.the-variants.{Behind, Refused}
 use Rattle.listing.specs.Names.{nameOf}
-use Rattle.listing.specs.Listing.{Put, newline, mark, one, beforeRecord, beforeRefusal, fieldText, fieldsText, line, lines, refusalLine, recordsText, textFrom, textOf, roomFor, answer, memory}
+use Rattle.listing.specs.Listing.{Put, one, fieldText, fieldsText, line, lines, refusalLine, recordsText, textFrom, textOf, roomFor, answer, memory}
 use Rattle.listing.specs.declared.Listed.the-variants.{Text, NoRoom}
 
 -- Nothing put, and bytes behind bytes.

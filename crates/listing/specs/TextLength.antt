@@ -1,12 +1,12 @@
 -- The text of a sheet takes at most 16 bytes for each of the sheet's, and 64 more.
 use Prim.Native.Nat.{ℕ, zero, suc, _+_, _-_, _*_, _^_, _≤_, _<_}
-use mathlib.Core.List.{List, [], _∷_, _++_}
-use mathlib.Core.Path.{_≡_, refl, ap, sym, _∙_}
+use mathlib.Core.List.{List, _++_}
+use mathlib.Core.Path.{_≡_, refl, ap, _∙_}
 use native.Mathlib.Omega.{arith}
 use native.Mathlib.Nat.{pow-suc}
 use lib.Dec.{lit≤}
 use lib.ListN.{length, take, drop, length-append}
-use Rattle.number.specs.Number.{AreBytes, limit32, encode, readAt}
+use Rattle.number.specs.Number.{AreBytes, limit32, encode}
 use Rattle.number.specs.Encode.{encode-ind}
 use Rattle.number.specs.Laws.{length-some, value-next}
 use Rattle.number.specs.Splice.{splice-is}
@@ -26,7 +26,7 @@ use Rattle.record.specs.Refusals.{refusal-most}
 use Rattle.record.specs.Laws.{record-refusals, record-again}
 use Rattle.record.specs.SheetLaws.{head-none}
 use Rattle.listing.specs.Names.{nameOf}
-use Rattle.listing.specs.Listing.{one, fieldText, fieldsText, line, refusalLine, textFrom, textOf, roomFor, answer, memory}
+use Rattle.listing.specs.Listing.{fieldText, fieldsText, line, refusalLine, textFrom, textOf, roomFor, answer, memory}
 use Rattle.listing.specs.ListingLaws.{field-length, line-length, refusal-length, forward, left, left-start, left-end, left-refused, left-length, text-answer, text-memory, short-answer}
 use Rattle.listing.specs.declared.Listed.the-variants.{Text}
 

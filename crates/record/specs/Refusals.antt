@@ -11,7 +11,7 @@ use Rattle.rules.specs.Checks.{Check, check, refusal}
 use Rattle.rules.specs.Formula.{Formula, holds, Formula._≐_}
 use Rattle.rules.specs.FormulaLaws.{Case, decide, choose-yes, choose-no, Case.it-does, Case.it-does-not}
 use Rattle.record.specs.declared.Place.the-variants.{Behind, Refused}
-use Rattle.record.specs.Reading.{refusalOf, valueOf, behind, clears, numberChecks, answered, refusedRecord, placed, refusedBy}
+use Rattle.record.specs.Reading.{refusalOf, valueOf, behind, clears, numberChecks, answered, refusedRecord, placed}
 
 -- A reading that is not refused is a value, and the place behind it.
 pub is-value : (at : ℕ) (r : Reading) → (refusalOf r ≡ 3 → ⊥) → (refusalOf r ≡ 4 → ⊥) → r ≡ Value (valueOf r) (behind at r)
@@ -109,11 +109,3 @@ module _ (n next : ℕ) where
   pub placed-refused : (m : ℕ) → 0 < m → n ≡ m → placed n next ≡ Refused m
   unfolding placed
   placed-refused m p e = choose-no (n ≐ 0) _ _ (λ z. omega arith) ∙ rw e
-
-  pub placed-number : refusedBy (placed n next) ≡ n
-  unfolding refusedBy
-  placed-number = go (decide (n ≐ 0))
-    where
-      go : Case (n ≐ 0) → refusedBy (placed n next) ≡ n
-      go (it-does e) = rw (placed-none e) (sym e)
-      go (it-does-not h) = rw (placed-refused n (omega (arith, h)) refl)

@@ -1,6 +1,6 @@
 -- Why an operation is turned down (document 01): the checks from 7 on, in order, for each operation. Check 6 and the order of
 -- the operations are in Step.
-use Prim.Native.Nat.{ℕ, suc, _+_, _*_, _/_}
+use Prim.Native.Nat.{ℕ, _+_, _*_, _/_}
 use mathlib.Core.List.{List, [], _∷_}
 use Rattle.session.specs.Table.{Session}
 use Rattle.session.specs.declared.Field.the-variants.{Objects, Links, TemplateCount, TaskState, TaskSlots, BlockState, BlockCreator, BlockHeld, SlotMode, SlotMark, SlotPayload, LinkState}

@@ -1,7 +1,7 @@
 -- "Edges, marked P" (document 01), and its false roads: a table of cases and one theorem that all of them hold of the rules.
 use Prim.Native.Nat.{ℕ, _+_}
-use mathlib.Core.Path.{_≡_, refl, subst}
-use mathlib.Core.Bool.{Bool, true, false}
+use mathlib.Core.Path.{refl}
+use mathlib.Core.Bool.{false}
 use mathlib.Core.List.{List, [], _∷_, _++_}
 use Rattle.number.specs.Number.{limit32, more, value, lastByte, shortest, judged, readFirst, readAt}
 use Rattle.number.specs.declared.Reading.{Reading}
@@ -11,7 +11,7 @@ use Rattle.session.specs.Fresh.{freshSession}
 use Rattle.session.specs.declared.Field.the-variants.{Objects, Kind, EventState, EventType, SlotMode, SlotMark, LinkState}
 use Rattle.session.specs.Names.{event, once, eventOpen, fired, ready, held, satisfied}
 use Rattle.rules.specs.declared.Operation.{Operation}
-use Rattle.rules.specs.Formula.{Formula, holds, test, choose, count, Formula._≐_, Formula._≼_, Formula._and_, Formula.each, Formula.never}
+use Rattle.rules.specs.Formula.{Formula, holds, test, choose, count, Formula._≐_, Formula._≼_, Formula._and_, Formula.each}
 use Rattle.rules.specs.FormulaLaws.{passed}
 use Rattle.rules.specs.Reading.{under, liveTasks, undeliveredLinks, droppedCount}
 use Rattle.rules.specs.Checks.{refusal}

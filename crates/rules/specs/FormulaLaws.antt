@@ -7,7 +7,6 @@ use native.Mathlib.Omega.{arith}
 use native.Mathlib.Decide.{decLt}
 use borrow.Author.Tests.{eqb-true, eqb-false, leb-true, leb-false}
 use lib.Dec.{T, eqb, leb}
-use Rattle.session.specs.Table.{pick}
 use Rattle.rules.specs.Formula.{Formula, holds, test, allOf, anyOf, choose, Formula._≐_, Formula._≼_, Formula._and_, Formula._or_, Formula._then_, Formula.never, Formula.each, Formula.some}
 
 -- a formula holds or does not, and its test says which

@@ -1,9 +1,9 @@
--- What a loop over places makes of `each`, `some` and `count`: nothing seen yet, and one place more.
+-- What a loop over places makes of `each` and `count`: nothing seen yet, and one place more.
 use Prim.Native.Nat.{ℕ, _+_}
 use mathlib.Core.Path.{_≡_, refl}
-use mathlib.Core.Bool.{Bool, true, false, _&&_, _||_}
+use mathlib.Core.Bool.{Bool, true, false, _&&_}
 use native.Mathlib.Numerals.{add-one}
-use Rattle.rules.specs.Formula.{Formula, test, count, choose, Formula.each, Formula.some}
+use Rattle.rules.specs.Formula.{Formula, test, count, choose, Formula.each}
 
 pub each-none : (f : ℕ → Formula) → test (each 0 f) ≡ true
 unfolding test
@@ -14,18 +14,6 @@ unfolding test
 each-more n f = rw add-one (go (test (f n)) (test (each n f)))
   where
     go : (a b : Bool) → elim a as (λ _. Bool) [ true ↦ b | false ↦ false ] ≡ (a && b)
-    go true b = refl
-    go false b = refl
-
-pub some-none : (f : ℕ → Formula) → test (some 0 f) ≡ false
-unfolding test
-some-none f = refl
-
-pub some-more : (n : ℕ) (f : ℕ → Formula) → test (some (n + 1) f) ≡ (test (f n) || test (some n f))
-unfolding test
-some-more n f = rw add-one (go (test (f n)) (test (some n f)))
-  where
-    go : (a b : Bool) → elim a as (λ _. Bool) [ true ↦ true | false ↦ b ] ≡ (a || b)
     go true b = refl
     go false b = refl
 

@@ -1,10 +1,8 @@
 -- A sheet is never longer than its text: a number takes at most as many bytes as digits.
 use Prim.Native.Nat.{ℕ, zero, suc, _+_, _-_, _*_, _/_, _≤_, _<_}
-use mathlib.Core.Bool.{Bool, true, false}
-use mathlib.Core.List.{List, [], _∷_, _++_}
-use mathlib.Core.Path.{_≡_, refl, ap, sym, subst, _∙_}
+use mathlib.Core.List.{List, [], _∷_}
+use mathlib.Core.Path.{_≡_, ap, _∙_}
 use native.Mathlib.Omega.{arith}
-use lib.Dec.{lit≤}
 use lib.ListN.{length, length-append}
 use Rattle.number.specs.Number.{limit32, encode}
 use Rattle.number.specs.Encode.{Groups, groups, encode-one, encode-several}

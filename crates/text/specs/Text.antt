@@ -1,6 +1,6 @@
 -- A sheet typed as text: "numbers in decimal, spaces, one record a line, `#` starts a comment". Where a line ends matters only to a
 -- comment and to the line number of a word that is no number: so a record may also go over several lines.
-use Prim.Native.Nat.{ℕ, zero, suc, _+_, _-_, _*_}
+use Prim.Native.Nat.{ℕ, _+_, _-_, _*_}
 use mathlib.Core.Bool.{Bool, true, false}
 use mathlib.Core.List.{List, [], _∷_, _++_}
 use lib.ListN.{length}

@@ -1,6 +1,5 @@
 -- Texts, computed: what is typed stands in the comment before its bytes.
-use Prim.Native.Nat.{ℕ}
-use mathlib.Core.List.{List, [], _∷_}
+use mathlib.Core.List.{[], _∷_}
 use mathlib.Core.Path.{_≡_, refl}
 use Rattle.rules.specs.Formula.{test}
 use Rattle.text.specs.Text.{kindOf, longer, afterWord, afterComment, after, isBad, isWord, ended, numbersFrom, numbers, lineAfter, badLineFrom, badLine}

@@ -3,9 +3,8 @@ use Prim.Native.Nat.{ℕ, zero, suc, _+_, _≤_, _<_}
 use mathlib.Core.List.{List, [], _∷_, _++_, append-assoc, append-nil}
 use mathlib.Core.Path.{_≡_, refl, ap, sym, subst, _∙_}
 use native.Mathlib.Omega.{arith}
-use lib.Dec.{lit≤}
 use lib.ListN.{length, getD}
-use Rattle.number.specs.Number.{AreBytes, limit32, encode}
+use Rattle.number.specs.Number.{AreBytes, encode}
 use Rattle.decimal.specs.Decimal.{decimal}
 use Rattle.rules.specs.declared.Operation.{Operation}
 use Rattle.rules.specs.Formula.{holds, test, not, choose, Formula.each, Formula._≐_, Formula._≼_}
@@ -18,14 +17,13 @@ use Rattle.record.specs.Writing.{fieldBytes, recordBytes, isRecordable, within}
 use Rattle.record.specs.Laws.{record-forward}
 use Rattle.record.specs.Sheet.{Contents, stopped, followed, recordsFrom, recordsBytes, contents, headAt, headRefusal, firstRecord, sheetOf as sheetOfOperations}
 use Rattle.record.specs.SheetLaws.{AllRecordable, sheet-again, AllRecordable.none, AllRecordable.one}
-use Rattle.text.specs.Text.{kindOf, longer, afterWord, after, isBad, isWord, ended, numbersFrom, numbers, badLine, encodeAll, sheetOf}
+use Rattle.text.specs.Text.{kindOf, longer, afterWord, after, isBad, isWord, ended, numbers, badLine, encodeAll, sheetOf}
 use Rattle.text.specs.TextLaws.{encodeAll-none, encodeAll-one, encodeAll-append}
-use Rattle.text.specs.declared.Mode.{Mode}
 use Rattle.text.specs.declared.Mode.the-variants.{Between, Word, Comment}
 use Rattle.listing.specs.Names.{nameOf}
 use Rattle.listing.specs.Listing.{one as firstLine, fieldText, fieldsText, line, lines, recordsText, textOf}
 use Rattle.listing.specs.ListingLaws.{text-behind}
-use Rattle.text_laws.specs.Reads.{Leads, leads-numbers, leads-good, leads-then, leads-decimal, leads-space, leads-newline, leads-mark, leads-end, leads-comment, Leads.stay, Leads.byte}
+use Rattle.text_laws.specs.Reads.{Leads, leads-numbers, leads-good, leads-then, leads-decimal, leads-space, leads-mark, leads-end, leads-comment, Leads.stay, Leads.byte}
 
 -- The last number of a record, and those before it: a number is known where the next byte behind it is read.
 unfoldable pub final : ℕ → ℕ → (ℕ → ℕ) → ℕ

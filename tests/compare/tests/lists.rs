@@ -3,30 +3,20 @@
 use compare::pair::{Pair, Through};
 use compare::words::from_words;
 use second::steer::{random_list, LATCH_CALLS};
-use second::{Answer, Operation, Session};
+use second::{Census, Session};
 
 /// The calls that the gate asks for.
 const CALLS: u64 = 200_000;
 
 /// What the lists bring up.
 #[derive(Default)]
-struct Census {
-    calls: u64,
+struct Lists {
+    census: Census,
     checked: u64,
-    accepted: [u64; 13],
-    refused: [u64; 22],
     most: (u64, u64),
 }
 
-impl Census {
-    fn count(&mut self, operation: &Operation, answer: Answer) {
-        self.calls += 1;
-        match answer.refused {
-            0 => self.accepted[operation.code as usize] += 1,
-            number => self.refused[number as usize] += 1,
-        }
-    }
-
+impl Lists {
     /// Play the list of a seed; every so many calls one goes through `apply`, the others through `apply_sound`.
     fn play(&mut self, seed: u64, calls: u64, every: u64) {
         let mut list = random_list(seed, calls);
@@ -37,7 +27,7 @@ impl Census {
             self.checked += u64::from(through == Through::Apply);
             let got = pair.call(&operation, through);
             assert_eq!(got, answer, "seed {seed}, call {number}: the second engine does not do the same again");
-            self.count(&operation, got);
+            self.census.count(&operation, got);
         }
         assert!(pair.memory.sound() && list.session.is_sound(), "seed {seed}");
         let read = from_words(pair.memory.words()).expect("the words of a session");
@@ -47,16 +37,10 @@ impl Census {
     }
 
     fn check(&self) {
-        println!("calls {} ({} of them through apply)", self.calls, self.checked);
-        println!("accepted {:?} refused {:?} most objects and links {:?}", self.accepted, self.refused, self.most);
-        assert!(self.calls >= CALLS);
+        self.census.check(6..=21);
+        println!("{} of them through apply, most objects and links {:?}", self.checked, self.most);
+        assert!(self.census.calls >= CALLS);
         assert_eq!(self.most, (512, 2_048));
-        for code in 1..=12 {
-            assert!(self.accepted[code] > 0, "operation {code} was never accepted");
-        }
-        for number in 6..=21 {
-            assert!(self.refused[number] > 0, "refusal {number} never came up");
-        }
     }
 }
 
@@ -69,18 +53,18 @@ fn same(one: &Session, other: &Session) -> bool {
 
 #[test]
 fn two_hundred_thousand_calls() {
-    let mut census = Census::default();
+    let mut lists = Lists::default();
     // A latch driven to either end of its range; 512 objects; 2,048 links.
-    census.play(0, LATCH_CALLS + 2_000, 997);
-    census.play(4, LATCH_CALLS + 2_000, 997);
-    census.play(5, 4_000, 101);
-    census.play(7, 6_000, 211);
+    lists.play(0, LATCH_CALLS + 2_000, 997);
+    lists.play(4, LATCH_CALLS + 2_000, 997);
+    lists.play(5, 4_000, 101);
+    lists.play(7, 6_000, 211);
     // Short lists are mostly checked, longer ones less, as a check of a large session costs more.
     for seed in 1_000..1_400 {
-        census.play(seed, 60, 3);
+        lists.play(seed, 60, 3);
     }
     for seed in 2_000..2_070 {
-        census.play(seed, 1_500, 61);
+        lists.play(seed, 1_500, 61);
     }
-    census.check();
+    lists.check();
 }

@@ -4,6 +4,7 @@
 //! of the design.
 
 pub mod call;
+pub mod census;
 pub mod checks;
 pub mod counts;
 pub mod descent;
@@ -25,6 +26,7 @@ pub mod steer;
 pub mod unsound;
 
 pub use call::Call;
+pub use census::Census;
 pub use hold::{Hold, Place};
 pub use link::{Link, LinkState};
 pub use mode::Mode;

@@ -10,9 +10,6 @@ use Rattle.decimal.specs.Decimal.{decimal}
 use Rattle.decimal.specs.DecimalLaws.{decimal-one, decimal-several, digits-some, digits-several, splice-behind-first}
 use Rattle.decimal.proofs.write.Statement.{statement}
 use Rattle.decimal.proofs.write.Tie as tie
-use Rattle.decimal.proofs.write.Reads as reads
-use Rattle.decimal.proofs.write.Lts as lts
-use Rattle.decimal.proofs.digits.Reads as digits-reads
 
 abbrev Inv-loop : tie.InvT-loop
 Inv-loop v out₀ at end last₀ rest₀ out last rest =
@@ -26,39 +23,30 @@ Inv-loop v out₀ at end last₀ rest₀ out last rest =
 abbrev μ-loop : tie.MeasureT-loop
 μ-loop v out₀ at end last₀ rest₀ out last rest = rest
 
--- src/lib.rt:27:20
 digits-requires : tie.Need-digits-requires Inv-loop μ-loop
 digits-requires c κs = search needs
 
--- src/lib.rt:27:15
 add-end : tie.Need-add-end Inv-loop μ-loop
 add-end c = omega arith
 
--- src/lib.rt:30:5
 loop-holds : tie.Need-loop-holds Inv-loop μ-loop
 loop-holds c = (refl, c .before .before .pre, omega arith, omega arith, omega arith, refl)
 
--- src/lib.rt:31:9
 sub-last : tie.Need-sub-last Inv-loop μ-loop
 sub-last c = omega (arith, digits-several (c .before .loop .rest) (c .loop-test .taken))
 
--- src/lib.rt:32:22
 add-out : tie.Need-add-out Inv-loop μ-loop
 add-out c = omega arith
 
--- src/lib.rt:32:21
 cast-out : tie.Need-cast-out Inv-loop μ-loop
 cast-out c = omega arith
 
--- src/lib.rt:32:9
 slice-write-out : tie.Need-slice-write-out Inv-loop μ-loop
 slice-write-out c = omega (arith, digits-several (c .before .loop .rest) (c .loop-test .taken))
 
--- src/lib.rt:30:5
 loop-less : tie.Need-loop-less Inv-loop μ-loop
 loop-less c = omega arith
 
--- src/lib.rt:30:5
 loop-again : tie.Need-loop-again Inv-loop μ-loop
 loop-again c =
     let l = c .before .loop in
@@ -74,23 +62,18 @@ loop-again c =
       rw (place, splice-behind-first (l .out) at (l .rest % 10 + 48) (decimal (l .rest / 10)) (omega arith), ← decimal-several (l .rest) big) (l .inv .5),
     )
 
--- src/lib.rt:35:16
 add-out-2 : tie.Need-add-out-2 Inv-loop μ-loop
 add-out-2 c = omega arith
 
--- src/lib.rt:35:15
 cast-out-2 : tie.Need-cast-out-2 Inv-loop μ-loop
 cast-out-2 c = omega arith
 
--- src/lib.rt:35:5
 slice-write-out-2 : tie.Need-slice-write-out-2 Inv-loop μ-loop
 slice-write-out-2 c = omega (arith, digits-some (c .before .loop .rest))
 
--- src/lib.rt:22:1
 same-length : tie.Need-same-length Inv-loop μ-loop
 same-length c = simp length-set (c .before .loop .inv .0)
 
--- src/lib.rt:22:1
 returns : tie.Need-returns Inv-loop μ-loop
 returns c =
     let l = c .before .loop in

@@ -8,42 +8,31 @@ use Rattle.engine.specs.Played.{answered-short, answered-unsound, answer
 use borrow.Author.Needs.{needs}
 use Rattle.engine.proofs.apply.Statement.{statement}
 use Rattle.engine.proofs.apply.Tie as tie
-use Rattle.engine.proofs.apply.Reads as reads
-use Rattle.engine.proofs.apply.Lts as lts
-use Rattle.engine.proofs.apply_sound.Reads as apply-sound-reads
-use Rattle.sound.proofs.is_sound.Reads as is-sound-reads
 
--- src/lib.rt:38:9
 returns : tie.Need-returns
 returns c = answered-short (c .before .before .args .memory .now) (c .before .before .args .op) (omega arith)
 
--- src/lib.rt:40:9
 is-sound-requires : tie.Need-is-sound-requires
 is-sound-requires c κs = search needs
 
--- src/lib.rt:41:9
 same-length : tie.Need-same-length
 same-length c = search needs
 
--- src/lib.rt:41:9
 returns-2 : tie.Need-returns-2
 returns-2 c =
     let a = c .before .before .before .before .before .args in
     let long : words ≤ length (a .memory .now) = omega arith in
     answered-unsound (a .memory .now) (a .op) long (memory-unsound (a .memory .now) long (sym (c .before .is-sound .ensures) ∙ not-true _ (c .if2 .taken)))
 
--- src/lib.rt:43:5
 apply-sound-requires : tie.Need-apply-sound-requires
 apply-sound-requires c κs =
     let ws = c .before .before .before .before .before .before .args .memory .now in
     let long : words ≤ length ws = omega arith in
     (long, memory-sound ws long (sym (c .before .before .is-sound .ensures) ∙ not-false _ (c .before .if2 .left)))
 
--- src/lib.rt:34:1
 same-length-2 : tie.Need-same-length-2
 same-length-2 c = search needs
 
--- src/lib.rt:34:1
 returns-3 : tie.Need-returns-3
 returns-3 c =
     let a = c .before .before .before .before .before .before .before .before .before .args in

@@ -2,27 +2,19 @@ use Rattle.library.specs.Called.{operation, accepted-called, refused-cal
 use borrow.Author.Needs.{needs}
 use Rattle.library.proofs.faltxigor_apply.Statement.{statement}
 use Rattle.library.proofs.faltxigor_apply.Tie as tie
-use Rattle.library.proofs.faltxigor_apply.Reads as reads
-use Rattle.library.proofs.faltxigor_apply.Lts as lts
-use Rattle.engine.proofs.apply.Reads as apply-reads
 
--- src/lib.rt:57:11
 apply-requires : tie.Need-apply-requires
 apply-requires c κs = search needs
 
--- src/lib.rt:58:26
 enum-known-m : tie.Need-enum-known-m
 enum-known-m c = search needs
 
--- src/lib.rt:62:25
 enum-known-n : tie.Need-enum-known-n
 enum-known-n c = search needs
 
--- src/lib.rt:40:1
 same-length : tie.Need-same-length
 same-length c = search needs
 
--- src/lib.rt:40:1
 returns : tie.Need-returns
 returns c =
     let a = c .before .before .before .before .before .before .before .before .args in
@@ -30,11 +22,9 @@ returns c =
     accepted-called (a .memory .now) (call .last .0) (operation (a .code) (a .f0) (a .f1) (a .f2) (a .f3) (a .f4)) (c .before .m .given .0 .0)
     (rw (c .before .m .given .1) at (call .ensures))
 
--- src/lib.rt:40:1
 same-length-2 : tie.Need-same-length-2
 same-length-2 c = search needs
 
--- src/lib.rt:40:1
 returns-2 : tie.Need-returns-2
 returns-2 c =
     let a = c .before .before .before .before .before .before .before .before .args in

@@ -2,35 +2,25 @@ use Rattle.library.specs.Called.{sound-accepted, sound-refused}
 use borrow.Author.Needs.{needs}
 use Rattle.library.proofs.faltxigor_apply_sound.Statement.{statement}
 use Rattle.library.proofs.faltxigor_apply_sound.Tie as tie
-use Rattle.library.proofs.faltxigor_apply_sound.Reads as reads
-use Rattle.library.proofs.faltxigor_apply_sound.Lts as lts
-use Rattle.engine.proofs.apply_sound.Reads as apply-sound-reads
 
--- src/lib.rt:88:11
 apply-sound-requires : tie.Need-apply-sound-requires
 apply-sound-requires c κs = search needs
 
--- src/lib.rt:89:26
 enum-known-m : tie.Need-enum-known-m
 enum-known-m c = search needs
 
--- src/lib.rt:93:25
 enum-known-n : tie.Need-enum-known-n
 enum-known-n c = search needs
 
--- src/lib.rt:70:1
 same-length : tie.Need-same-length
 same-length c = search needs
 
--- src/lib.rt:70:1
 returns : tie.Need-returns
 returns c = sound-accepted _ _ _ _ (rw (c .before .m .given .1) at (c .before .before .before .before .before .apply-sound .ensures))
 
--- src/lib.rt:70:1
 same-length-2 : tie.Need-same-length-2
 same-length-2 c = search needs
 
--- src/lib.rt:70:1
 returns-2 : tie.Need-returns-2
 returns-2 c = sound-refused _ _ _ _ (rw (c .before .n .given .1) at (c .before .before .before .before .before .apply-sound .ensures))
 

@@ -2,29 +2,21 @@ use mathlib.Core.Path.{sym, _∙_}
 use borrow.Author.Needs.{needs}
 use Rattle.library.proofs.faltxigor_fresh.Statement.{statement}
 use Rattle.library.proofs.faltxigor_fresh.Tie as tie
-use Rattle.library.proofs.faltxigor_fresh.Reads as reads
-use Rattle.library.proofs.faltxigor_fresh.Lts as lts
-use Rattle.session.proofs.write_fresh.Reads as write-fresh-reads
 
--- src/lib.rt:22:8
 write-fresh-requires : tie.Need-write-fresh-requires
 write-fresh-requires c κs = search needs
 
--- src/lib.rt:23:9
 same-length : tie.Need-same-length
 same-length c = search needs
 
--- src/lib.rt:23:9
 returns : tie.Need-returns
 returns c =
     let w = c .before .before .before .write-fresh .ensures in
     (rw (sym (w .0) ∙ c .if1 .taken), w .1)
 
--- src/lib.rt:17:1
 same-length-2 : tie.Need-same-length-2
 same-length-2 c = search needs
 
--- src/lib.rt:17:1
 returns-2 : tie.Need-returns-2
 returns-2 c =
     let w = c .before .before .before .write-fresh .ensures in

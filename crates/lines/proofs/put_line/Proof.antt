@@ -4,35 +4,25 @@ use Rattle.lines.specs.LineLaws.{splice-tail}
 use borrow.Author.Needs.{needs}
 use Rattle.lines.proofs.put_line.Statement.{statement}
 use Rattle.lines.proofs.put_line.Tie as tie
-use Rattle.lines.proofs.put_line.Reads as reads
-use Rattle.lines.proofs.put_line.Lts as lts
-use Rattle.lines.proofs.write_line.Reads as write-line-reads
 
--- src/lib.rt:40:16
 sub-tail : tie.Need-sub-tail
 sub-tail c = search needs
 
--- src/lib.rt:40:16
 part-tail-start : tie.Need-part-tail-start
 part-tail-start c = search needs
 
--- src/lib.rt:40:16
 part-tail-end : tie.Need-part-tail-end
 part-tail-end c = search needs
 
--- src/lib.rt:41:12
 write-line-requires : tie.Need-write-line-requires
 write-line-requires c κs = search needs
 
--- src/lib.rt:41:5
 add-result : tie.Need-add-result
 add-result c = search needs
 
--- src/lib.rt:35:1
 same-length : tie.Need-same-length
 same-length c = search needs
 
--- src/lib.rt:35:1
 returns : tie.Need-returns
 returns c =
     let w = c .before .before .write-line .ensures in

@@ -3,27 +3,19 @@ use Rattle.lines.specs.LineLaws.{line-parts, splice-line}
 use borrow.Author.Needs.{needs}
 use Rattle.lines.proofs.write_line.Statement.{statement}
 use Rattle.lines.proofs.write_line.Tie as tie
-use Rattle.lines.proofs.write_line.Reads as reads
-use Rattle.lines.proofs.write_line.Lts as lts
-use Rattle.lines.proofs.write_marked.Reads as write-marked-reads
 
--- src/lib.rt:28:9
 write-marked-requires : tie.Need-write-marked-requires
 write-marked-requires c κs = let a = c .before .before .args in omega (arith, line-parts (a .a) (a .b) (a .c))
 
--- src/lib.rt:29:9
 write-marked-requires-2 : tie.Need-write-marked-requires-2
 write-marked-requires-2 c κs = let a = c .before .before .before .before .before .before .args in omega (arith, line-parts (a .a) (a .b) (a .c))
 
--- src/lib.rt:30:5
 write-marked-requires-3 : tie.Need-write-marked-requires-3
 write-marked-requires-3 c κs = let a = c .before .before .before .before .before .before .before .before .before .before .args in omega (arith, line-parts (a .a) (a .b) (a .c))
 
--- src/lib.rt:23:1
 same-length : tie.Need-same-length
 same-length c = search needs
 
--- src/lib.rt:23:1
 returns : tie.Need-returns
 returns c =
     let third = c .before .before in

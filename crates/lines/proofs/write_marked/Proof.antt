@@ -3,27 +3,19 @@ use Rattle.lines.specs.LineLaws.{marked-length, splice-marked}
 use borrow.Author.Needs.{needs}
 use Rattle.lines.proofs.write_marked.Statement.{statement}
 use Rattle.lines.proofs.write_marked.Tie as tie
-use Rattle.lines.proofs.write_marked.Reads as reads
-use Rattle.lines.proofs.write_marked.Lts as lts
-use Rattle.decimal.proofs.write.Reads as write-reads
 
--- src/lib.rt:17:9
 write-requires : tie.Need-write-requires
 write-requires c κs = let a = c .before .before .args in omega (arith, marked-length (a .v) (a .mark))
 
--- src/lib.rt:18:5
 slice-write-out : tie.Need-slice-write-out
 slice-write-out c = let a = c .before .before .before .before .before .args in omega (arith, marked-length (a .v) (a .mark))
 
--- src/lib.rt:19:5
 add-result : tie.Need-add-result
 add-result c = let a = c .before .before .before .before .before .args in omega (arith, marked-length (a .v) (a .mark))
 
--- src/lib.rt:12:1
 same-length : tie.Need-same-length
 same-length c = search needs
 
--- src/lib.rt:12:1
 returns : tie.Need-returns
 returns c =
     let a = c .before .before .before .before .before .args in

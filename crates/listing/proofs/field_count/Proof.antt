@@ -4,29 +4,21 @@ use Rattle.record.specs.Laws.{count-five}
 use borrow.Author.Needs.{needs}
 use Rattle.listing.proofs.field_count.Statement.{statement}
 use Rattle.listing.proofs.field_count.Tie as tie
-use Rattle.listing.proofs.field_count.Reads as reads
-use Rattle.listing.proofs.field_count.Lts as lts
-use Rattle.rules.proofs.arity_of.Reads as arity-of-reads
 
--- src/lib.rt:92:11
 arity-of-requires : tie.Need-arity-of-requires
 arity-of-requires c κs = search needs
 
--- src/lib.rt:93:23
 enum-known-n : tie.Need-enum-known-n
 enum-known-n c = search needs
 
--- src/lib.rt:94:27
 enum-told : tie.Need-enum-told
 enum-told c = search needs
 
--- src/lib.rt:87:1
 returns : tie.Need-returns
 returns c =
     let known = arity-known _ _ (sym (c .before .before .before .arity-of .ensures) ∙ c .before .n .given .1) in
     (known .1, rw (known .1) (count-five _ (known .0)))
 
--- src/lib.rt:87:1
 returns-2 : tie.Need-returns-2
 returns-2 c = absurd (arity-unknown _ (sym (c .before .before .arity-of .ensures) ∙ c .enum-told .given .1) (c .before .before .before .pre))
 

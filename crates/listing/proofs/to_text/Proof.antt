@@ -13,12 +13,6 @@ use Rattle.listing.specs.declared.Listed.the-variants.{Text}
 use borrow.Author.Needs.{needs}
 use Rattle.listing.proofs.to_text.Statement.{statement}
 use Rattle.listing.proofs.to_text.Tie as tie
-use Rattle.listing.proofs.to_text.Reads as reads
-use Rattle.listing.proofs.to_text.Lts as lts
-use Rattle.listing.proofs.write_bytes.Reads as write-bytes-reads
-use Rattle.listing.proofs.write_records.Reads as write-records-reads
-use Rattle.listing.proofs.write_refusal.Reads as write-refusal-reads
-use Rattle.record.proofs.read_head.Reads as read-head-reads
 
 -- Past the tests there is room for the text, and the text that was put is what the sheet gives.
 module _ (c : tie.Else2) where

@@ -9,8 +9,6 @@ use Rattle.number.specs.Splice.{splice-none}
 use Rattle.listing.specs.ListingLaws.{put-more}
 use Rattle.listing.proofs.write_bytes.Statement.{statement}
 use Rattle.listing.proofs.write_bytes.Tie as tie
-use Rattle.listing.proofs.write_bytes.Reads as reads
-use Rattle.listing.proofs.write_bytes.Lts as lts
 
 abbrev Inv-loop : tie.InvT-loop
 Inv-loop bytes out₀ at k₀ out k =

@@ -1,15 +1,10 @@
 -- `listing::write_field` meets its contract: a space, and the number behind it.
-use mathlib.Core.Path.{sym}
 use native.Mathlib.Omega.{arith}
 use Rattle.listing.specs.Listing.{fieldText}
 use Rattle.listing.specs.ListingLaws.{put-then, field-length}
 use borrow.Author.Needs.{needs}
 use Rattle.listing.proofs.write_field.Statement.{statement}
 use Rattle.listing.proofs.write_field.Tie as tie
-use Rattle.listing.proofs.write_field.Reads as reads
-use Rattle.listing.proofs.write_field.Lts as lts
-use Rattle.decimal.proofs.write.Reads as write-reads
-use Rattle.listing.proofs.write_bytes.Reads as write-bytes-reads
 
 slice-aggregate-write-bytes : tie.Need-slice-aggregate-write-bytes
 slice-aggregate-write-bytes c = search needs

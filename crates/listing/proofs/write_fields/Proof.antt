@@ -1,15 +1,12 @@
 -- `listing::write_fields` meets its contract: the first k fields are put.
 use Prim.Native.Nat.{ℕ, _+_, _-_, _≤_}
-use mathlib.Core.Path.{_≡_, refl, ap, sym, _∙_}
+use mathlib.Core.Path.{_≡_, refl, _∙_}
 use native.Mathlib.Omega.{arith}
 use lib.ListN.{length, getD}
-use Rattle.listing.specs.Listing.{Put, fieldText, fieldsText}
+use Rattle.listing.specs.Listing.{Put, fieldsText}
 use Rattle.listing.specs.ListingLaws.{put-none, put-then, fields-none, fields-more, fields-room}
 use Rattle.listing.proofs.write_fields.Statement.{statement}
 use Rattle.listing.proofs.write_fields.Tie as tie
-use Rattle.listing.proofs.write_fields.Reads as reads
-use Rattle.listing.proofs.write_fields.Lts as lts
-use Rattle.listing.proofs.write_field.Reads as write-field-reads
 
 abbrev Inv-loop : tie.InvT-loop
 Inv-loop n out₀ start fields at₀ k₀ out at k =

@@ -9,13 +9,6 @@ use Rattle.listing.specs.ListingLaws.{put-five, line-length}
 use borrow.Author.Needs.{needs}
 use Rattle.listing.proofs.write_line.Statement.{statement}
 use Rattle.listing.proofs.write_line.Tie as tie
-use Rattle.listing.proofs.write_line.Reads as reads
-use Rattle.listing.proofs.write_line.Lts as lts
-use Rattle.decimal.proofs.write.Reads as write-reads
-use Rattle.listing.proofs.field_count.Reads as field-count-reads
-use Rattle.listing.proofs.write_bytes.Reads as write-bytes-reads
-use Rattle.listing.proofs.write_fields.Reads as write-fields-reads
-use Rattle.listing.proofs.write_name.Reads as write-name-reads
 
 write-requires : tie.Need-write-requires
 write-requires c κs = let start = c .before .before .before in omega (arith, line-length (start .args .op), start .pre .1)

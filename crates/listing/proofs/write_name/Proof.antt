@@ -8,9 +8,6 @@ use Rattle.listing.specs.ListingLaws.{put-none}
 use borrow.Author.Needs.{needs}
 use Rattle.listing.proofs.write_name.Statement.{statement}
 use Rattle.listing.proofs.write_name.Tie as tie
-use Rattle.listing.proofs.write_name.Reads as reads
-use Rattle.listing.proofs.write_name.Lts as lts
-use Rattle.listing.proofs.write_bytes.Reads as write-bytes-reads
 
 slice-aggregate-write-bytes : tie.Need-slice-aggregate-write-bytes
 slice-aggregate-write-bytes c = search needs

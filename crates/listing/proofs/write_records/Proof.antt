@@ -1,21 +1,14 @@
 -- `listing::write_records` meets its contract: the text of the records that are left, put from the used length on, gives what the
 -- text of all gives.
-use Prim.Native.Nat.{ℕ, _+_, _-_, _≤_}
-use mathlib.Core.List.{List}
+use Prim.Native.Nat.{_+_, _-_, _≤_}
 use mathlib.Core.Path.{_≡_, refl, ap, sym, _∙_}
 use native.Mathlib.Omega.{arith}
 use lib.ListN.{length}
 use Rattle.number.specs.Number.{splice}
 use Rattle.number.specs.Splice.{splice-none, splice-then}
-use Rattle.record.specs.Laws.{record-forward}
 use Rattle.listing.specs.ListingLaws.{forward, left, left-start, left-end, left-refused, left-read, left-length}
 use Rattle.listing.proofs.write_records.Statement.{statement}
 use Rattle.listing.proofs.write_records.Tie as tie
-use Rattle.listing.proofs.write_records.Reads as reads
-use Rattle.listing.proofs.write_records.Lts as lts
-use Rattle.listing.proofs.write_line.Reads as write-line-reads
-use Rattle.listing.proofs.write_refusal.Reads as write-refusal-reads
-use Rattle.record.proofs.read_record.Reads as read-record-reads
 
 abbrev Inv-loop : tie.InvT-loop
 Inv-loop sheet first out₀ start at₀ used₀ k₀ out at used k =

@@ -6,10 +6,6 @@ use Rattle.listing.specs.ListingLaws.{put-five, refusal-length}
 use borrow.Author.Needs.{needs}
 use Rattle.listing.proofs.write_refusal.Statement.{statement}
 use Rattle.listing.proofs.write_refusal.Tie as tie
-use Rattle.listing.proofs.write_refusal.Reads as reads
-use Rattle.listing.proofs.write_refusal.Lts as lts
-use Rattle.decimal.proofs.write.Reads as write-reads
-use Rattle.listing.proofs.write_bytes.Reads as write-bytes-reads
 
 slice-aggregate-write-bytes : tie.Need-slice-aggregate-write-bytes
 slice-aggregate-write-bytes c = search needs

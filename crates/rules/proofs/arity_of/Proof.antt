@@ -5,28 +5,21 @@ use Rattle.rules.specs.Arity.{arityOf}
 use borrow.Author.Needs.{needs}
 use Rattle.rules.proofs.arity_of.Statement.{statement}
 use Rattle.rules.proofs.arity_of.Tie as tie
-use Rattle.rules.proofs.arity_of.Reads as reads
-use Rattle.rules.proofs.arity_of.Lts as lts
 
--- src/lib.rt:50:9
 returns : tie.Need-returns
 unfolding arityOf
 returns c = sym (choose-no _ _ _ (λ x. omega arith))
 
--- src/lib.rt:53:9
 returns-2 : tie.Need-returns-2
 unfolding arityOf
 returns-2 c = sym (choose-no _ _ _ (λ x. omega arith))
 
--- src/lib.rt:56:19
 mul-t5 : tie.Need-mul-t5
 mul-t5 c = search needs
 
--- src/lib.rt:56:19
 array-read-t8 : tie.Need-array-read-t8
 array-read-t8 c = search needs
 
--- src/lib.rt:46:1
 returns-3 : tie.Need-returns-3
 unfolding arityOf
 returns-3 c = sym (choose-yes _ _ _ (omega arith, omega arith))

@@ -5,46 +5,34 @@ use Rattle.rules.specs.FormulaLaws.{fails}
 use Rattle.rules.specs.Conflicts.{table-agrees, conflict-modes}
 use Rattle.rules.proofs.conflicts.Statement.{statement}
 use Rattle.rules.proofs.conflicts.Tie as tie
-use Rattle.rules.proofs.conflicts.Reads as reads
-use Rattle.rules.proofs.conflicts.Lts as lts
 
--- src/lib.rt:69:9
 returns : tie.Need-returns
 returns c = sym (fails _ (λ x. let m = conflict-modes _ _ x in omega arith))
 
--- src/lib.rt:72:9
 returns-2 : tie.Need-returns-2
 returns-2 c = sym (fails _ (λ x. let m = conflict-modes _ _ x in omega arith))
 
--- src/lib.rt:75:9
 returns-3 : tie.Need-returns-3
 returns-3 c = sym (fails _ (λ x. let m = conflict-modes _ _ x in omega arith))
 
--- src/lib.rt:78:9
 returns-4 : tie.Need-returns-4
 returns-4 c = sym (fails _ (λ x. let m = conflict-modes _ _ x in omega arith))
 
--- src/lib.rt:80:14
 sub-i : tie.Need-sub-i
 sub-i c = search needs
 
--- src/lib.rt:81:14
 sub-j : tie.Need-sub-j
 sub-j c = search needs
 
--- src/lib.rt:82:5
 mul-result : tie.Need-mul-result
 mul-result c = search needs
 
--- src/lib.rt:82:5
 index-1-result : tie.Need-index-1-result
 index-1-result c = search needs
 
--- src/lib.rt:82:5
 index-2-result : tie.Need-index-2-result
 index-2-result c = search needs
 
--- src/lib.rt:65:1
 returns-5 : tie.Need-returns-5
 returns-5 c =
     let a = c .before .before .before .before .before .args in

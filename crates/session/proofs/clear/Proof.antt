@@ -6,8 +6,6 @@ use Rattle.session.specs.Table.{words}
 use Rattle.session.specs.FreshLaws.{zeros-empty, zeros-more, drop-past}
 use Rattle.session.proofs.clear.Statement.{statement}
 use Rattle.session.proofs.clear.Tie as tie
-use Rattle.session.proofs.clear.Reads as reads
-use Rattle.session.proofs.clear.Lts as lts
 
 abbrev Inv-loop : tie.InvT-loop
 Inv-loop s₀ i₀ s i =
@@ -16,41 +14,33 @@ Inv-loop s₀ i₀ s i =
 abbrev μ-loop : tie.MeasureT-loop
 μ-loop s₀ i₀ s i = words - i
 
--- src/lib.rt:96:5
 loop-holds : tie.Need-loop-holds Inv-loop μ-loop
 loop-holds c = (omega arith, c .pre, refl, λ k h. absurd (none k h), refl)
   where
     none : (k : ℕ) → k < 0 → ⊥
     none k h = omega arith
 
--- src/lib.rt:97:9
 mul-s : tie.Need-mul-s Inv-loop μ-loop
 mul-s c = omega arith
 
--- src/lib.rt:97:9
 slice-write-s : tie.Need-slice-write-s Inv-loop μ-loop
 slice-write-s c = omega arith
 
--- src/lib.rt:98:9
 add-i : tie.Need-add-i Inv-loop μ-loop
 add-i c = omega arith
 
--- src/lib.rt:96:5
 loop-less : tie.Need-loop-less Inv-loop μ-loop
 loop-less c = omega arith
 
--- src/lib.rt:96:5
 loop-again : tie.Need-loop-again Inv-loop μ-loop
 loop-again c =
     let l = c .before .loop in
     let i = l .inv in
     (omega arith, i .1, simp length-set (i .2), zeros-more (l .s) (l .i) (omega arith) (i .3), drop-past (l .s) (l .i) (omega arith) ∙ i .4)
 
--- src/lib.rt:91:1
 same-length : tie.Need-same-length Inv-loop μ-loop
 same-length c = c .before .loop .inv .2
 
--- src/lib.rt:91:1
 returns : tie.Need-returns Inv-loop μ-loop
 returns c =
     let l = c .before .loop in

@@ -5,39 +5,28 @@ use Rattle.session.specs.TableLaws.{wrote-none, wrote-more}
 use Rattle.session.specs.declared.Field.the-variants.{Objects, Kind, TaskState, TaskSlots, BlockState}
 use Rattle.session.proofs.put_first_objects.Statement.{statement}
 use Rattle.session.proofs.put_first_objects.Tie as tie
-use Rattle.session.proofs.put_first_objects.Reads as reads
-use Rattle.session.proofs.put_first_objects.Lts as lts
-use Rattle.session.proofs.set.Reads as set-reads
 
--- src/lib.rt:107:5
 set-requires : tie.Need-set-requires
 set-requires c κs = search needs
 
--- src/lib.rt:108:5
 set-requires-2 : tie.Need-set-requires-2
 set-requires-2 c κs = search needs
 
--- src/lib.rt:109:5
 set-requires-3 : tie.Need-set-requires-3
 set-requires-3 c κs = search needs
 
--- src/lib.rt:110:5
 set-requires-4 : tie.Need-set-requires-4
 set-requires-4 c κs = search needs
 
--- src/lib.rt:111:5
 set-requires-5 : tie.Need-set-requires-5
 set-requires-5 c κs = search needs
 
--- src/lib.rt:112:5
 set-requires-6 : tie.Need-set-requires-6
 set-requires-6 c κs = search needs
 
--- src/lib.rt:103:1
 same-length : tie.Need-same-length
 same-length c = search needs
 
--- src/lib.rt:103:1
 returns : tie.Need-returns
 unfolding firstObjects
 returns c =

@@ -6,27 +6,19 @@ use Rattle.session.specs.TableLaws.{wrote-none, wrote-more}
 use Rattle.session.specs.declared.Field.the-variants.{SlotMode, SlotMark, SlotPayload}
 use Rattle.session.proofs.satisfy_main.Statement.{statement}
 use Rattle.session.proofs.satisfy_main.Tie as tie
-use Rattle.session.proofs.satisfy_main.Reads as reads
-use Rattle.session.proofs.satisfy_main.Lts as lts
-use Rattle.session.proofs.set.Reads as set-reads
 
--- src/lib.rt:120:5
 set-requires : tie.Need-set-requires
 set-requires c κs = search needs
 
--- src/lib.rt:121:5
 set-requires-2 : tie.Need-set-requires-2
 set-requires-2 c κs = search needs
 
--- src/lib.rt:122:5
 set-requires-3 : tie.Need-set-requires-3
 set-requires-3 c κs = search needs
 
--- src/lib.rt:116:1
 same-length : tie.Need-same-length
 same-length c = search needs
 
--- src/lib.rt:116:1
 returns : tie.Need-returns
 unfolding freshSession
 returns c =

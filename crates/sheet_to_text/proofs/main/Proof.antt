@@ -5,11 +5,6 @@ use Rattle.listing.specs.TextLength.{text-fits}
 use borrow.Author.Needs.{needs}
 use Rattle.sheet_to_text.proofs.main.Statement.{statement}
 use Rattle.sheet_to_text.proofs.main.Tie as tie
-use Rattle.sheet_to_text.proofs.main.Reads as reads
-use Rattle.sheet_to_text.proofs.main.Lts as lts
-use Rattle.io.proofs.read_full.Reads as read-full-reads
-use Rattle.io.proofs.write_all.Reads as write-all-reads
-use Rattle.listing.proofs.to_text.Reads as to-text-reads
 
 slice-aggregate-read-full : tie.Need-slice-aggregate-read-full
 slice-aggregate-read-full c = search needs

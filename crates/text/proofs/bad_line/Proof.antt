@@ -1,6 +1,6 @@
 -- `text::bad_line` meets its contract: what the rest of the text gives from here is what the whole text gives.
 use mathlib.Core.Path.{_≡_, sym, _∙_, ap}
-use Prim.Native.Nat.{ℕ, _+_, _-_, _≤_}
+use Prim.Native.Nat.{_+_, _-_, _≤_}
 use mathlib.Core.Logic.{⊎-elim}
 use native.Mathlib.Omega.{arith}
 use lib.ListN.{length, drop, getD}
@@ -8,10 +8,6 @@ use Rattle.text.specs.Text.{isBad, lineAfter, badLineFrom, badLine}
 use Rattle.text.specs.TextLaws.{bad-start, bad-here, bad-later, bad-none, line-more, line-same}
 use Rattle.text.proofs.bad_line.Statement.{statement}
 use Rattle.text.proofs.bad_line.Tie as tie
-use Rattle.text.proofs.bad_line.Reads as reads
-use Rattle.text.proofs.bad_line.Lts as lts
-use Rattle.text.proofs.is_bad.Reads as is-bad-reads
-use Rattle.text.proofs.next.Reads as next-reads
 
 abbrev Inv-loop : tie.InvT-loop
 Inv-loop text mode₀ line₀ i₀ mode line i = (i ≤ length text) × (line ≤ i + 1) × (badLineFrom mode line (drop i text) ≡ badLine text)

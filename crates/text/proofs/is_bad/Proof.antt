@@ -4,8 +4,6 @@ use Rattle.text.specs.Text.{isBad}
 use borrow.Author.Needs.{needs}
 use Rattle.text.proofs.is_bad.Statement.{statement}
 use Rattle.text.proofs.is_bad.Tie as tie
-use Rattle.text.proofs.is_bad.Reads as reads
-use Rattle.text.proofs.is_bad.Lts as lts
 
 enum-told : tie.Need-enum-told
 enum-told c = search needs

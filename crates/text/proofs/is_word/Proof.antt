@@ -4,8 +4,6 @@ use Rattle.text.specs.Text.{isWord}
 use borrow.Author.Needs.{needs}
 use Rattle.text.proofs.is_word.Statement.{statement}
 use Rattle.text.proofs.is_word.Tie as tie
-use Rattle.text.proofs.is_word.Reads as reads
-use Rattle.text.proofs.is_word.Lts as lts
 
 enum-told : tie.Need-enum-told
 enum-told c = search needs

@@ -1,13 +1,10 @@
 -- `text::kind_of` meets its contract: each arm has its law.
 use mathlib.Core.Path.{sym}
 use native.Mathlib.Omega.{arith}
-use mathlib.Core.Logic.{⊎-elim}
 use Rattle.text.specs.TextLaws.{Plain, kind-newline, kind-blank, kind-hash, kind-digit, kind-other}
 use borrow.Author.Needs.{needs}
 use Rattle.text.proofs.kind_of.Statement.{statement}
 use Rattle.text.proofs.kind_of.Tie as tie
-use Rattle.text.proofs.kind_of.Reads as reads
-use Rattle.text.proofs.kind_of.Lts as lts
 
 -- past the arms of single numbers
 plain : (c : tie.At-match-rest) → Plain (c .before .args .b)

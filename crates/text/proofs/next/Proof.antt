@@ -1,15 +1,10 @@
 -- `text::next` meets its contract: each arm is a case of the definition.
 use mathlib.Core.Path.{ap, sym, _∙_}
-use Prim.Native.Nat.{ℕ}
 use Rattle.text.specs.Text.{after}
 use Rattle.text.specs.declared.Mode.{Mode}
 use borrow.Author.Needs.{needs}
 use Rattle.text.proofs.next.Statement.{statement}
 use Rattle.text.proofs.next.Tie as tie
-use Rattle.text.proofs.next.Reads as reads
-use Rattle.text.proofs.next.Lts as lts
-use Rattle.text.proofs.next_in_comment.Reads as next-in-comment-reads
-use Rattle.text.proofs.next_in_word.Reads as next-in-word-reads
 
 enum-told : tie.Need-enum-told
 enum-told c = search needs

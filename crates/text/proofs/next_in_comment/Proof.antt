@@ -4,9 +4,6 @@ use Rattle.text.specs.Text.{afterComment}
 use borrow.Author.Needs.{needs}
 use Rattle.text.proofs.next_in_comment.Statement.{statement}
 use Rattle.text.proofs.next_in_comment.Tie as tie
-use Rattle.text.proofs.next_in_comment.Reads as reads
-use Rattle.text.proofs.next_in_comment.Lts as lts
-use Rattle.text.proofs.kind_of.Reads as kind-of-reads
 
 kind-of-requires : tie.Need-kind-of-requires
 kind-of-requires c κs = search needs

@@ -4,10 +4,6 @@ use Rattle.text.specs.Text.{afterWord}
 use borrow.Author.Needs.{needs}
 use Rattle.text.proofs.next_in_word.Statement.{statement}
 use Rattle.text.proofs.next_in_word.Tie as tie
-use Rattle.text.proofs.next_in_word.Reads as reads
-use Rattle.text.proofs.next_in_word.Lts as lts
-use Rattle.text.proofs.kind_of.Reads as kind-of-reads
-use Rattle.text.proofs.with_digit.Reads as with-digit-reads
 
 kind-of-requires : tie.Need-kind-of-requires
 kind-of-requires c κs = search needs

@@ -8,10 +8,6 @@ use Rattle.text.specs.declared.Typed.the-variants.{Sheet, BadLine}
 use borrow.Author.Needs.{needs}
 use Rattle.text.proofs.to_sheet.Statement.{statement}
 use Rattle.text.proofs.to_sheet.Tie as tie
-use Rattle.text.proofs.to_sheet.Reads as reads
-use Rattle.text.proofs.to_sheet.Lts as lts
-use Rattle.text.proofs.bad_line.Reads as bad-line-reads
-use Rattle.text.proofs.write_numbers.Reads as write-numbers-reads
 
 returns : tie.Need-returns
 returns c =

@@ -5,8 +5,6 @@ use Rattle.text.specs.TextLaws.{longer-within, longer-above}
 use borrow.Author.Needs.{needs}
 use Rattle.text.proofs.with_digit.Statement.{statement}
 use Rattle.text.proofs.with_digit.Tie as tie
-use Rattle.text.proofs.with_digit.Reads as reads
-use Rattle.text.proofs.with_digit.Lts as lts
 
 returns : tie.Need-returns
 returns c = sym (longer-above _ _ (omega arith))

@@ -1,6 +1,5 @@
 -- `text::write_ended` meets its contract: the value of a word that does not go on is written, and else nothing.
 use mathlib.Core.Path.{_≡_, ap, sym, _∙_}
-use Prim.Native.Nat.{_+_}
 use native.Mathlib.Omega.{arith}
 use lib.ListN.{length}
 use Rattle.number.specs.Number.{encode}
@@ -10,10 +9,6 @@ use Rattle.text.specs.declared.Mode.{Mode}
 use borrow.Author.Needs.{needs}
 use Rattle.text.proofs.write_ended.Statement.{statement}
 use Rattle.text.proofs.write_ended.Tie as tie
-use Rattle.text.proofs.write_ended.Reads as reads
-use Rattle.text.proofs.write_ended.Lts as lts
-use Rattle.text.proofs.is_word.Reads as is-word-reads
-use Rattle.text.proofs.write_number.Reads as write-number-reads
 
 -- a word that does not go on: its value ended
 word-ended : (c : tie.Else1) → encodeAll (ended (c .before .before .before .before .before .before .args .mode) (c .before .before .before .before .before .before .args .then)) ≡ encode (c .before .before .before .mode .given .0 .0)

@@ -9,9 +9,6 @@ use Rattle.number.specs.declared.Written.the-variants.{Used}
 use borrow.Author.Needs.{needs}
 use Rattle.text.proofs.write_number.Statement.{statement}
 use Rattle.text.proofs.write_number.Tie as tie
-use Rattle.text.proofs.write_number.Reads as reads
-use Rattle.text.proofs.write_number.Lts as lts
-use Rattle.number.proofs.write.Reads as write-reads
 
 write-requires : tie.Need-write-requires
 write-requires c κs = search needs

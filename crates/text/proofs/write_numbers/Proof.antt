@@ -4,7 +4,7 @@ use Prim.Native.Nat.{ℕ, _+_, _-_, _≤_}
 use mathlib.Core.List.{List}
 use mathlib.Core.Path.{_≡_, refl, ap, sym, _∙_}
 use native.Mathlib.Omega.{arith}
-use lib.ListN.{length, drop, length-append}
+use lib.ListN.{length, drop}
 use Rattle.number.specs.Number.{splice}
 use Rattle.number.specs.Splice.{splice-length, splice-then}
 use Rattle.text.specs.Text.{ended, numbersFrom, encodeAll, sheetOf}
@@ -12,10 +12,6 @@ use Rattle.text.specs.TextLaws.{numbers-start, bytes-step, length-step, 
 use Rattle.text.specs.SheetLength.{sheet-short}
 use Rattle.text.proofs.write_numbers.Statement.{statement}
 use Rattle.text.proofs.write_numbers.Tie as tie
-use Rattle.text.proofs.write_numbers.Reads as reads
-use Rattle.text.proofs.write_numbers.Lts as lts
-use Rattle.text.proofs.next.Reads as next-reads
-use Rattle.text.proofs.write_ended.Reads as write-ended-reads
 
 abbrev Inv-loop : tie.InvT-loop
 Inv-loop text out₀ mode₀ used₀ i₀ out mode used i =

@@ -6,12 +6,6 @@ use Rattle.text.specs.SheetLength.{sheet-fits}
 use borrow.Author.Needs.{needs}
 use Rattle.text_to_sheet.proofs.main.Statement.{statement}
 use Rattle.text_to_sheet.proofs.main.Tie as tie
-use Rattle.text_to_sheet.proofs.main.Reads as reads
-use Rattle.text_to_sheet.proofs.main.Lts as lts
-use Rattle.io.proofs.read_full.Reads as read-full-reads
-use Rattle.io.proofs.write_all.Reads as write-all-reads
-use Rattle.text.proofs.to_sheet.Reads as to-sheet-reads
-use Rattle.text_to_sheet.proofs.print_line.Reads as print-line-reads
 
 slice-aggregate-read-full : tie.Need-slice-aggregate-read-full
 slice-aggregate-read-full c = search needs

@@ -11,12 +11,6 @@ use Rattle.effects.specs.Delivering.{delivered-satisfiable}
 use borrow.Author.Needs.{needs}
 use Rattle.effects.proofs.delivering.deliver.Statement.{statement}
 use Rattle.effects.proofs.delivering.deliver.Tie as tie
-use Rattle.effects.proofs.delivering.deliver.Reads as reads
-use Rattle.effects.proofs.delivering.deliver.Lts as lts
-use Rattle.effects.proofs.delivering.target_drops.Reads as target-drops-reads
-use Rattle.effects.proofs.satisfying.satisfy.Reads as satisfy-reads
-use Rattle.session.proofs.get.Reads as get-reads
-use Rattle.session.proofs.set.Reads as set-reads
 
 get-requires : tie.Need-get-requires
 get-requires c κs = search needs

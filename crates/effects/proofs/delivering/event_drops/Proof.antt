@@ -4,10 +4,6 @@ use Rattle.effects.specs.Delivering.{drops-destroyed, drops-spent, idemp
 use borrow.Author.Needs.{needs}
 use Rattle.effects.proofs.delivering.event_drops.Statement.{statement}
 use Rattle.effects.proofs.delivering.event_drops.Tie as tie
-use Rattle.effects.proofs.delivering.event_drops.Reads as reads
-use Rattle.effects.proofs.delivering.event_drops.Lts as lts
-use Rattle.effects.proofs.delivering.leaves_range.Reads as leaves-range-reads
-use Rattle.session.proofs.get.Reads as get-reads
 
 get-requires : tie.Need-get-requires
 get-requires c κs = search needs

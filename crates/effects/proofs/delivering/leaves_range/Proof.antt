@@ -2,8 +2,6 @@ use mathlib.Core.Path.{sym}
 use Rattle.effects.specs.Delivering.{leaves-down, leaves-up, leaves-never}
 use Rattle.effects.proofs.delivering.leaves_range.Statement.{statement}
 use Rattle.effects.proofs.delivering.leaves_range.Tie as tie
-use Rattle.effects.proofs.delivering.leaves_range.Reads as reads
-use Rattle.effects.proofs.delivering.leaves_range.Lts as lts
 
 returns : tie.Need-returns
 returns c = sym (leaves-down _ _ (c .if1 .taken))

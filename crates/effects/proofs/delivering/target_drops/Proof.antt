@@ -3,10 +3,6 @@ use Rattle.effects.specs.Delivering.{task-drops}
 use borrow.Author.Needs.{needs}
 use Rattle.effects.proofs.delivering.target_drops.Statement.{statement}
 use Rattle.effects.proofs.delivering.target_drops.Tie as tie
-use Rattle.effects.proofs.delivering.target_drops.Reads as reads
-use Rattle.effects.proofs.delivering.target_drops.Lts as lts
-use Rattle.effects.proofs.delivering.event_drops.Reads as event-drops-reads
-use Rattle.session.proofs.get.Reads as get-reads
 
 get-requires : tie.Need-get-requires
 get-requires c κs = search needs

@@ -7,10 +7,6 @@ use Rattle.effects.specs.Puts.{wrote-next}
 use borrow.Author.Needs.{needs}
 use Rattle.effects.proofs.firing.fire_one.Statement.{statement}
 use Rattle.effects.proofs.firing.fire_one.Tie as tie
-use Rattle.effects.proofs.firing.fire_one.Reads as reads
-use Rattle.effects.proofs.firing.fire_one.Lts as lts
-use Rattle.effects.proofs.firing.set_open_links.Reads as set-open-links-reads
-use Rattle.session.proofs.set.Reads as set-reads
 
 set-requires : tie.Need-set-requires
 set-requires c κs = search needs

@@ -6,10 +6,6 @@ use Rattle.rules.specs.Effects.{claim}
 use borrow.Author.Needs.{needs}
 use Rattle.effects.proofs.linking.claim.Statement.{statement}
 use Rattle.effects.proofs.linking.claim.Tie as tie
-use Rattle.effects.proofs.linking.claim.Reads as reads
-use Rattle.effects.proofs.linking.claim.Lts as lts
-use Rattle.session.proofs.get.Reads as get-reads
-use Rattle.session.proofs.set.Reads as set-reads
 
 get-requires : tie.Need-get-requires
 get-requires c κs = search needs

@@ -5,12 +5,6 @@ use Rattle.effects.specs.Puts.{wrote-next}
 use borrow.Author.Needs.{needs}
 use Rattle.effects.proofs.linking.depend.Statement.{statement}
 use Rattle.effects.proofs.linking.depend.Tie as tie
-use Rattle.effects.proofs.linking.depend.Reads as reads
-use Rattle.effects.proofs.linking.depend.Lts as lts
-use Rattle.effects.proofs.linking.claim.Reads as claim-reads
-use Rattle.effects.proofs.linking.new_link.Reads as new-link-reads
-use Rattle.effects.proofs.satisfying.satisfy.Reads as satisfy-reads
-use Rattle.session.proofs.get.Reads as get-reads
 
 get-requires : tie.Need-get-requires
 get-requires c κs = search needs

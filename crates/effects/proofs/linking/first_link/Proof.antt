@@ -3,8 +3,6 @@ use Rattle.rules.specs.FormulaLaws.{choose-yes, choose-no}
 use Rattle.effects.specs.Linking.{firstLink}
 use Rattle.effects.proofs.linking.first_link.Statement.{statement}
 use Rattle.effects.proofs.linking.first_link.Tie as tie
-use Rattle.effects.proofs.linking.first_link.Reads as reads
-use Rattle.effects.proofs.linking.first_link.Lts as lts
 
 returns : tie.Need-returns
 unfolding firstLink

@@ -5,11 +5,6 @@ use Rattle.effects.specs.Linking.{firstLink}
 use borrow.Author.Needs.{needs}
 use Rattle.effects.proofs.linking.new_link.Statement.{statement}
 use Rattle.effects.proofs.linking.new_link.Tie as tie
-use Rattle.effects.proofs.linking.new_link.Reads as reads
-use Rattle.effects.proofs.linking.new_link.Lts as lts
-use Rattle.effects.proofs.linking.first_link.Reads as first-link-reads
-use Rattle.session.proofs.get.Reads as get-reads
-use Rattle.session.proofs.set.Reads as set-reads
 
 get-requires : tie.Need-get-requires
 get-requires c κs = search needs

@@ -3,8 +3,6 @@ use Rattle.rules.specs.FormulaLaws.{choose-yes, choose-no}
 use Rattle.effects.specs.Making.{firstState}
 use Rattle.effects.proofs.making.first_state.Statement.{statement}
 use Rattle.effects.proofs.making.first_state.Tie as tie
-use Rattle.effects.proofs.making.first_state.Reads as reads
-use Rattle.effects.proofs.making.first_state.Lts as lts
 
 returns : tie.Need-returns
 unfolding firstState

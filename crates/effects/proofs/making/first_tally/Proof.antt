@@ -3,8 +3,6 @@ use Rattle.rules.specs.FormulaLaws.{choose-yes, choose-no}
 use Rattle.effects.specs.Making.{firstTally}
 use Rattle.effects.proofs.making.first_tally.Statement.{statement}
 use Rattle.effects.proofs.making.first_tally.Tie as tie
-use Rattle.effects.proofs.making.first_tally.Reads as reads
-use Rattle.effects.proofs.making.first_tally.Lts as lts
 
 returns : tie.Need-returns
 unfolding firstTally

@@ -6,11 +6,6 @@ use Rattle.session.specs.Names.{output}
 use borrow.Author.Needs.{needs}
 use Rattle.effects.proofs.making.make_task.Statement.{statement}
 use Rattle.effects.proofs.making.make_task.Tie as tie
-use Rattle.effects.proofs.making.make_task.Reads as reads
-use Rattle.effects.proofs.making.make_task.Lts as lts
-use Rattle.effects.proofs.making.new_event.Reads as new-event-reads
-use Rattle.effects.proofs.making.new_task.Reads as new-task-reads
-use Rattle.session.proofs.get.Reads as get-reads
 
 get-requires : tie.Need-get-requires
 get-requires c κs = search needs

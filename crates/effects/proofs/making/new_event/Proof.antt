@@ -5,11 +5,6 @@ use Rattle.effects.specs.Making.{firstTally}
 use borrow.Author.Needs.{needs}
 use Rattle.effects.proofs.making.new_event.Statement.{statement}
 use Rattle.effects.proofs.making.new_event.Tie as tie
-use Rattle.effects.proofs.making.new_event.Reads as reads
-use Rattle.effects.proofs.making.new_event.Lts as lts
-use Rattle.effects.proofs.making.first_tally.Reads as first-tally-reads
-use Rattle.effects.proofs.making.new_object.Reads as new-object-reads
-use Rattle.session.proofs.set.Reads as set-reads
 
 new-object-requires : tie.Need-new-object-requires
 new-object-requires c κs = search needs

@@ -4,9 +4,6 @@ use Rattle.rules.specs.Effects.{new}
 use borrow.Author.Needs.{needs}
 use Rattle.effects.proofs.making.new_object.Statement.{statement}
 use Rattle.effects.proofs.making.new_object.Tie as tie
-use Rattle.effects.proofs.making.new_object.Reads as reads
-use Rattle.effects.proofs.making.new_object.Lts as lts
-use Rattle.session.proofs.set.Reads as set-reads
 
 set-requires : tie.Need-set-requires
 set-requires c κs = search needs

@@ -5,11 +5,6 @@ use Rattle.effects.specs.Making.{firstState}
 use borrow.Author.Needs.{needs}
 use Rattle.effects.proofs.making.new_task.Statement.{statement}
 use Rattle.effects.proofs.making.new_task.Tie as tie
-use Rattle.effects.proofs.making.new_task.Reads as reads
-use Rattle.effects.proofs.making.new_task.Lts as lts
-use Rattle.effects.proofs.making.first_state.Reads as first-state-reads
-use Rattle.effects.proofs.making.new_object.Reads as new-object-reads
-use Rattle.session.proofs.set.Reads as set-reads
 
 new-object-requires : tie.Need-new-object-requires
 new-object-requires c κs = search needs

@@ -4,9 +4,6 @@ use Rattle.effects.specs.Operations.{linkMade}
 use borrow.Author.Needs.{needs}
 use Rattle.effects.proofs.operations.next_link.Statement.{statement}
 use Rattle.effects.proofs.operations.next_link.Tie as tie
-use Rattle.effects.proofs.operations.next_link.Reads as reads
-use Rattle.effects.proofs.operations.next_link.Lts as lts
-use Rattle.session.proofs.get.Reads as get-reads
 
 get-requires : tie.Need-get-requires
 get-requires c κs = search needs

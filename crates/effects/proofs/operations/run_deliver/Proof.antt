@@ -2,9 +2,6 @@ use Rattle.effects.specs.Bounds.{deliver-ready}
 use borrow.Author.Needs.{needs}
 use Rattle.effects.proofs.operations.run_deliver.Statement.{statement}
 use Rattle.effects.proofs.operations.run_deliver.Tie as tie
-use Rattle.effects.proofs.operations.run_deliver.Reads as reads
-use Rattle.effects.proofs.operations.run_deliver.Lts as lts
-use Rattle.effects.proofs.delivering.deliver.Reads as deliver-reads
 
 deliver-requires : tie.Need-deliver-requires
 deliver-requires c κs = let p = c .before .before .pre in (p .0, deliver-ready _ _ (p .1) (p .2))

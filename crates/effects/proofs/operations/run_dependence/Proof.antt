@@ -2,10 +2,6 @@ use Rattle.effects.specs.Bounds.{ground, dependence-ready}
 use borrow.Author.Needs.{needs}
 use Rattle.effects.proofs.operations.run_dependence.Statement.{statement}
 use Rattle.effects.proofs.operations.run_dependence.Tie as tie
-use Rattle.effects.proofs.operations.run_dependence.Reads as reads
-use Rattle.effects.proofs.operations.run_dependence.Lts as lts
-use Rattle.effects.proofs.linking.depend.Reads as depend-reads
-use Rattle.effects.proofs.operations.next_link.Reads as next-link-reads
 
 next-link-requires : tie.Need-next-link-requires
 next-link-requires c κs = let p = c .before .before .pre in (p .0, dependence-ready _ _ _ _ _ _ (p .1) (p .2) .from, ground _ (p .1) .counts .1 .1)

@@ -1,10 +1,6 @@
 use borrow.Author.Needs.{needs}
 use Rattle.effects.proofs.operations.run_event.Statement.{statement}
 use Rattle.effects.proofs.operations.run_event.Tie as tie
-use Rattle.effects.proofs.operations.run_event.Reads as reads
-use Rattle.effects.proofs.operations.run_event.Lts as lts
-use Rattle.effects.proofs.making.new_event.Reads as new-event-reads
-use Rattle.effects.proofs.operations.next_object.Reads as next-object-reads
 
 next-object-requires : tie.Need-next-object-requires
 next-object-requires c κs = search needs

@@ -2,9 +2,6 @@ use Rattle.effects.specs.Bounds.{satisfy-ready}
 use borrow.Author.Needs.{needs}
 use Rattle.effects.proofs.operations.run_satisfy.Statement.{statement}
 use Rattle.effects.proofs.operations.run_satisfy.Tie as tie
-use Rattle.effects.proofs.operations.run_satisfy.Reads as reads
-use Rattle.effects.proofs.operations.run_satisfy.Lts as lts
-use Rattle.effects.proofs.satisfying.satisfy_event.Reads as satisfy-event-reads
 
 satisfy-event-requires : tie.Need-satisfy-event-requires
 satisfy-event-requires c κs = let p = c .before .before .pre in (p .0, satisfy-ready _ _ _ _ _ (p .1) (p .2))

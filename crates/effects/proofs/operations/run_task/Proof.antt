@@ -1,11 +1,6 @@
 use borrow.Author.Needs.{needs}
 use Rattle.effects.proofs.operations.run_task.Statement.{statement}
 use Rattle.effects.proofs.operations.run_task.Tie as tie
-use Rattle.effects.proofs.operations.run_task.Reads as reads
-use Rattle.effects.proofs.operations.run_task.Lts as lts
-use Rattle.effects.proofs.making.make_task.Reads as make-task-reads
-use Rattle.effects.proofs.operations.next_object.Reads as next-object-reads
-use Rattle.effects.proofs.operations.slots_of.Reads as slots-of-reads
 
 next-object-requires : tie.Need-next-object-requires
 next-object-requires c κs = search needs

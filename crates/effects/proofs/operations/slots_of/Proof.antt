@@ -3,9 +3,6 @@ use Rattle.rules.specs.FormulaLaws.{choose-yes, choose-no}
 use borrow.Author.Needs.{needs}
 use Rattle.effects.proofs.operations.slots_of.Statement.{statement}
 use Rattle.effects.proofs.operations.slots_of.Tie as tie
-use Rattle.effects.proofs.operations.slots_of.Reads as reads
-use Rattle.effects.proofs.operations.slots_of.Lts as lts
-use Rattle.session.proofs.get.Reads as get-reads
 
 get-requires : tie.Need-get-requires
 get-requires c κs = search needs

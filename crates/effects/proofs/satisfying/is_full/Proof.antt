@@ -8,9 +8,6 @@ use Rattle.session.specs.declared.Field.the-variants.{TaskSlots, SlotMark}
 use Rattle.rules.specs.FormulaLaws.{passes, fails}
 use Rattle.effects.proofs.satisfying.is_full.Statement.{statement}
 use Rattle.effects.proofs.satisfying.is_full.Tie as tie
-use Rattle.effects.proofs.satisfying.is_full.Reads as reads
-use Rattle.effects.proofs.satisfying.is_full.Lts as lts
-use Rattle.session.proofs.get.Reads as get-reads
 
 abbrev Inv-loop : tie.InvT-loop
 Inv-loop s t n first j₀ j =

@@ -5,8 +5,6 @@ use Rattle.effects.specs.Satisfying.{nextTally}
 use borrow.Author.Needs.{needs}
 use Rattle.effects.proofs.satisfying.next_tally.Statement.{statement}
 use Rattle.effects.proofs.satisfying.next_tally.Tie as tie
-use Rattle.effects.proofs.satisfying.next_tally.Reads as reads
-use Rattle.effects.proofs.satisfying.next_tally.Lts as lts
 
 sub-result : tie.Need-sub-result
 sub-result c = omega (arith, c .before .pre .1 (c .if1 .taken))

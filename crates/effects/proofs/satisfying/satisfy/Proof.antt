@@ -3,11 +3,6 @@ use Rattle.rules.specs.Effects.{satisfy}
 use borrow.Author.Needs.{needs}
 use Rattle.effects.proofs.satisfying.satisfy.Statement.{statement}
 use Rattle.effects.proofs.satisfying.satisfy.Tie as tie
-use Rattle.effects.proofs.satisfying.satisfy.Reads as reads
-use Rattle.effects.proofs.satisfying.satisfy.Lts as lts
-use Rattle.effects.proofs.satisfying.satisfy_event.Reads as satisfy-event-reads
-use Rattle.effects.proofs.satisfying.satisfy_slot.Reads as satisfy-slot-reads
-use Rattle.session.proofs.get.Reads as get-reads
 
 get-requires : tie.Need-get-requires
 get-requires c κs = search needs

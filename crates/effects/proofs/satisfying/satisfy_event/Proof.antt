@@ -3,11 +3,6 @@ use Rattle.effects.specs.Satisfying.{event-counts, event-stays, event-fi
 use borrow.Author.Needs.{needs}
 use Rattle.effects.proofs.satisfying.satisfy_event.Statement.{statement}
 use Rattle.effects.proofs.satisfying.satisfy_event.Tie as tie
-use Rattle.effects.proofs.satisfying.satisfy_event.Reads as reads
-use Rattle.effects.proofs.satisfying.satisfy_event.Lts as lts
-use Rattle.effects.proofs.firing.fire_one.Reads as fire-one-reads
-use Rattle.effects.proofs.satisfying.tally.Reads as tally-reads
-use Rattle.session.proofs.get.Reads as get-reads
 
 get-requires : tie.Need-get-requires
 get-requires c κs = search needs

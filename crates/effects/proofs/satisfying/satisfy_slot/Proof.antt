@@ -9,10 +9,6 @@ use Rattle.effects.specs.Satisfying.{filled, filled-last, filled-one}
 use borrow.Author.Needs.{needs}
 use Rattle.effects.proofs.satisfying.satisfy_slot.Statement.{statement}
 use Rattle.effects.proofs.satisfying.satisfy_slot.Tie as tie
-use Rattle.effects.proofs.satisfying.satisfy_slot.Reads as reads
-use Rattle.effects.proofs.satisfying.satisfy_slot.Lts as lts
-use Rattle.effects.proofs.satisfying.is_full.Reads as is-full-reads
-use Rattle.session.proofs.set.Reads as set-reads
 
 mul-at : tie.Need-mul-at
 mul-at c = search needs

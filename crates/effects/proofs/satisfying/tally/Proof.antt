@@ -6,12 +6,6 @@ use Rattle.effects.specs.Puts.{wrote-next}
 use borrow.Author.Needs.{needs}
 use Rattle.effects.proofs.satisfying.tally.Statement.{statement}
 use Rattle.effects.proofs.satisfying.tally.Tie as tie
-use Rattle.effects.proofs.satisfying.tally.Reads as reads
-use Rattle.effects.proofs.satisfying.tally.Lts as lts
-use Rattle.effects.proofs.firing.fire_one.Reads as fire-one-reads
-use Rattle.effects.proofs.satisfying.next_tally.Reads as next-tally-reads
-use Rattle.session.proofs.get.Reads as get-reads
-use Rattle.session.proofs.set.Reads as set-reads
 
 get-requires : tie.Need-get-requires
 get-requires c κs = search needs

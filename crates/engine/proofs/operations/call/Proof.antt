@@ -1,120 +1,88 @@
 use mathlib.Core.Path.{_≡_}
-use native.Mathlib.Omega.{arith}
 use borrow.Author.Needs.{needs}
 use Rattle.rules.specs.Step.{rules}
 use Rattle.engine.specs.Played.{last-call}
 use Rattle.engine.proofs.operations.call.Statement.{statement}
 use Rattle.engine.proofs.operations.call.Tie as tie
-use Rattle.engine.proofs.operations.call.Reads as reads
-use Rattle.engine.proofs.operations.call.Lts as lts
-use Rattle.engine.proofs.operations.dependence.Reads as dependence-reads
-use Rattle.engine.proofs.operations.destroy.Reads as destroy-reads
-use Rattle.engine.proofs.operations.release.Reads as release-reads
-use Rattle.engine.proofs.operations.satisfy.Reads as satisfy-reads
 
--- src/operations.rt:197:28
 array-read-dependence : tie.Need-array-read-dependence
 array-read-dependence c = search needs
 
--- src/operations.rt:197:34
 array-read-dependence-2 : tie.Need-array-read-dependence-2
 array-read-dependence-2 c = search needs
 
--- src/operations.rt:197:40
 array-read-dependence-3 : tie.Need-array-read-dependence-3
 array-read-dependence-3 c = search needs
 
--- src/operations.rt:197:46
 array-read-dependence-4 : tie.Need-array-read-dependence-4
 array-read-dependence-4 c = search needs
 
--- src/operations.rt:197:52
 array-read-dependence-5 : tie.Need-array-read-dependence-5
 array-read-dependence-5 c = search needs
 
--- src/operations.rt:197:14
 dependence-requires : tie.Need-dependence-requires
 dependence-requires c κs = search needs
 
--- src/operations.rt:198:25
 array-read-satisfy : tie.Need-array-read-satisfy
 array-read-satisfy c = search needs
 
--- src/operations.rt:198:31
 array-read-satisfy-2 : tie.Need-array-read-satisfy-2
 array-read-satisfy-2 c = search needs
 
--- src/operations.rt:198:37
 array-read-satisfy-3 : tie.Need-array-read-satisfy-3
 array-read-satisfy-3 c = search needs
 
--- src/operations.rt:198:43
 array-read-satisfy-4 : tie.Need-array-read-satisfy-4
 array-read-satisfy-4 c = search needs
 
--- src/operations.rt:198:14
 satisfy-requires : tie.Need-satisfy-requires
 satisfy-requires c κs = search needs
 
--- src/operations.rt:199:25
 array-read-release : tie.Need-array-read-release
 array-read-release c = search needs
 
--- src/operations.rt:199:31
 array-read-release-2 : tie.Need-array-read-release-2
 array-read-release-2 c = search needs
 
--- src/operations.rt:199:14
 release-requires : tie.Need-release-requires
 release-requires c κs = search needs
 
--- src/operations.rt:200:25
 array-read-destroy : tie.Need-array-read-destroy
 array-read-destroy c = search needs
 
--- src/operations.rt:200:31
 array-read-destroy-2 : tie.Need-array-read-destroy-2
 array-read-destroy-2 c = search needs
 
--- src/operations.rt:200:14
 destroy-requires : tie.Need-destroy-requires
 destroy-requires c κs = search needs
 
--- src/operations.rt:192:1
 same-length : tie.Need-same-length
 same-length c = search needs
 
--- src/operations.rt:192:1
 returns : tie.Need-returns
 unfolding rules
 returns c =
     rw (c .before .before .before .before .match .keys1) (c .before .before .dependence .ensures)
 
--- src/operations.rt:192:1
 same-length-2 : tie.Need-same-length-2
 same-length-2 c = search needs
 
--- src/operations.rt:192:1
 returns-2 : tie.Need-returns-2
 unfolding rules
 returns-2 c =
     rw (c .before .before .before .before .match .keys2) (c .before .before .satisfy .ensures)
 
--- src/operations.rt:192:1
 same-length-3 : tie.Need-same-length-3
 same-length-3 c = search needs
 
--- src/operations.rt:192:1
 returns-3 : tie.Need-returns-3
 unfolding rules
 returns-3 c =
     rw (c .before .before .before .before .match .keys3) (c .before .before .release .ensures)
 
--- src/operations.rt:192:1
 same-length-4 : tie.Need-same-length-4
 same-length-4 c = search needs
 
--- src/operations.rt:192:1
 returns-4 : tie.Need-returns-4
 unfolding rules
 returns-4 c =

@@ -1,118 +1,86 @@
-use mathlib.Core.Path.{_≡_}
-use native.Mathlib.Omega.{arith}
 use borrow.Author.Needs.{needs}
 use Rattle.rules.specs.Step.{rules}
 use Rattle.engine.specs.Played.{played-none, no-maker}
 use Rattle.engine.proofs.operations.make.Statement.{statement}
 use Rattle.engine.proofs.operations.make.Tie as tie
-use Rattle.engine.proofs.operations.make.Reads as reads
-use Rattle.engine.proofs.operations.make.Lts as lts
-use Rattle.engine.proofs.operations.block.Reads as block-reads
-use Rattle.engine.proofs.operations.event.Reads as event-reads
-use Rattle.engine.proofs.operations.task.Reads as task-reads
-use Rattle.engine.proofs.operations.template.Reads as template-reads
 
--- src/operations.rt:183:26
 array-read-template : tie.Need-array-read-template
 array-read-template c = search needs
 
--- src/operations.rt:183:32
 array-read-template-2 : tie.Need-array-read-template-2
 array-read-template-2 c = search needs
 
--- src/operations.rt:183:14
 template-requires : tie.Need-template-requires
 template-requires c κs = search needs
 
--- src/operations.rt:184:22
 array-read-task : tie.Need-array-read-task
 array-read-task c = search needs
 
--- src/operations.rt:184:28
 array-read-task-2 : tie.Need-array-read-task-2
 array-read-task-2 c = search needs
 
--- src/operations.rt:184:34
 array-read-task-3 : tie.Need-array-read-task-3
 array-read-task-3 c = search needs
 
--- src/operations.rt:184:40
 array-read-task-4 : tie.Need-array-read-task-4
 array-read-task-4 c = search needs
 
--- src/operations.rt:184:46
 array-read-task-5 : tie.Need-array-read-task-5
 array-read-task-5 c = search needs
 
--- src/operations.rt:184:14
 task-requires : tie.Need-task-requires
 task-requires c κs = search needs
 
--- src/operations.rt:185:23
 array-read-event : tie.Need-array-read-event
 array-read-event c = search needs
 
--- src/operations.rt:185:29
 array-read-event-2 : tie.Need-array-read-event-2
 array-read-event-2 c = search needs
 
--- src/operations.rt:185:14
 event-requires : tie.Need-event-requires
 event-requires c κs = search needs
 
--- src/operations.rt:186:23
 array-read-block : tie.Need-array-read-block
 array-read-block c = search needs
 
--- src/operations.rt:186:29
 array-read-block-2 : tie.Need-array-read-block-2
 array-read-block-2 c = search needs
 
--- src/operations.rt:186:14
 block-requires : tie.Need-block-requires
 block-requires c κs = search needs
 
--- src/operations.rt:178:1
 same-length : tie.Need-same-length
 same-length c = search needs
 
--- src/operations.rt:178:1
 returns : tie.Need-returns
 unfolding rules
 returns c =
     rw (c .before .before .before .before .match .keys1) (c .before .before .template .ensures)
 
--- src/operations.rt:178:1
 same-length-2 : tie.Need-same-length-2
 same-length-2 c = search needs
 
--- src/operations.rt:178:1
 returns-2 : tie.Need-returns-2
 unfolding rules
 returns-2 c =
     rw (c .before .before .before .before .match .keys2) (c .before .before .task .ensures)
 
--- src/operations.rt:178:1
 same-length-3 : tie.Need-same-length-3
 same-length-3 c = search needs
 
--- src/operations.rt:178:1
 returns-3 : tie.Need-returns-3
 unfolding rules
 returns-3 c =
     rw (c .before .before .before .before .match .keys3) (c .before .before .event .ensures)
 
--- src/operations.rt:178:1
 same-length-4 : tie.Need-same-length-4
 same-length-4 c = search needs
 
--- src/operations.rt:178:1
 returns-4 : tie.Need-returns-4
 unfolding rules
 returns-4 c =
     rw (c .before .before .before .before .match .keys4) (c .before .before .block .ensures)
 
--- src/operations.rt:178:1
 returns-5 : tie.Need-returns-5
 returns-5 c =
     let a = c .before .before .args in

@@ -9,7 +9,6 @@ use Rattle.session.specs.Table.{read, words}
 use Rattle.session.specs.declared.Field.the-variants.{Objects}
 use Rattle.rules.specs.FormulaLaws.{passed, failed, passes, fails}
 use Rattle.holding.specs.Alone.{NoneBefore, none-lower, none-eight}
-use borrow.Author.Needs.{needs}
 use Rattle.holding.proofs.finishing.is_childless.Statement.{statement}
 use Rattle.holding.proofs.finishing.is_childless.Tie as tie
 
