@@ -7,7 +7,7 @@ use Rattle.session.specs.Table.{Session}
 use Rattle.session.specs.declared.Field.the-variants.{Objects, Links, TaskState, TaskSlots, SlotMark, SlotPayload}
 use Rattle.session.specs.Names.{mostObjects, mostLinks, task, granted, running, held}
 use Rattle.rules.specs.Formula.{holds}
-use Rattle.rules.specs.Reading.{at, made}
+use Rattle.rules.specs.Reading.{at}
 use Rattle.rules.specs.Sound.{sound, soundUsed, counts, objects, slots, slot, states}
 use Rattle.laws.specs.SlotPlaces.{few-slots, place-split, place-low}
 
@@ -32,10 +32,6 @@ few-objects s h = sound-counts s h .1 .0
 
 pub few-links : (s : Session) → holds (sound s) → s Links 0 ≤ mostLinks
 few-links s h = sound-counts s h .1 .1
-
--- a handle that was made, or is null, is a place of the fields
-pub made-low : (s : Session) → holds (sound s) → (h : ℕ) → holds (made s h) → h ≤ mostObjects
-made-low s o h m = let few = few-objects s o in omega arith
 
 -- a task has at most 16 slots
 pub sound-few-slots : (s : Session) → holds (sound s) → (t : ℕ) → t ≤ s Objects 0 → s TaskSlots t ≤ 16
