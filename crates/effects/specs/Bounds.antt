@@ -1,5 +1,5 @@
 -- What a sound session and an operation's checks give the functions that write: places that there are, and ranges.
-use Prim.Native.Nat.{ℕ, zero, suc, _+_, _≤_, _<_}
+use Prim.Native.Nat.{ℕ, _+_, _≤_, _<_}
 use mathlib.Core.Path.{_≡_}
 use mathlib.Core.List.{List}
 use mathlib.Core.Logic.{_⊎_, inl, inr}
@@ -10,14 +10,14 @@ use Rattle.session.specs.Table.{Session, read, size}
 use Rattle.session.specs.declared.Field.{Field}
 use Rattle.session.specs.declared.Field.the-variants.{Links, Kind, EventType, EventTally, LinkSource, LinkTarget, LinkSlot, LinkState}
 use Rattle.session.specs.Names.{mostObjects, task, event, latch, topTally, delivered}
-use Rattle.rules.specs.Formula.{Formula, holds, count, Formula._≐_, Formula._or_}
+use Rattle.rules.specs.Formula.{holds, Formula._≐_, Formula._or_}
 use Rattle.rules.specs.FormulaLaws.{Case, decide, Case.it-does, Case.it-does-not}
 use Rattle.rules.specs.Reading.{made, isKind, isUserEvent, hasSlot, overflows}
 use Rattle.rules.specs.Checks.{orNull, dependenceChecks, satisfyChecks, deliverChecks}
 use Rattle.rules.specs.Sound.{sound, soundUsed, counts, objects, links, dropped, unused, eventPart, isLink}
 use Rattle.rules.specs.Effects.{drops}
 use Rattle.laws.specs.Met.{met}
-use Rattle.laws.specs.Counting.{count-yes, count-no}
+use Rattle.laws.specs.Counting.{count-most}
 use Rattle.laws.specs.SlotPlaces.{few-slots, low-slot}
 use Rattle.effects.specs.Firing.{NoMoreLinks}
 use Rattle.effects.specs.Satisfying.{Firable, Countable, Triggerable, Satisfiable}
@@ -50,16 +50,6 @@ no-more-links ws h l m = go (decLt l 2049)
     go : Dec (l < 2049) → read ws LinkState l ≡ 0
     go (yes b) = ground (read ws) h .unused .1 .1 l b (omega arith) .1 .1 .1
     go (no f) = read-past ws LinkState l (omega arith)
-
--- a formula holds at no more places than there are
-pub count-most : (n : ℕ) (f : ℕ → Formula) → count n f ≤ n
-unfolding count
-count-most zero f = omega arith
-count-most (suc n) f = go (decide (f n)) (count-most n f)
-  where
-    go : Case (f n) → count n f ≤ n → count (suc n) f ≤ suc n
-    go (it-does x) l = rw (count-yes n f x) (omega arith)
-    go (it-does-not x) l = rw (count-no n f x) (omega arith)
 
 -- a handle that was made, or null, has a place
 pub handle-made : (s : Session) (h : ℕ) → Ground s → holds (made s h) → h ≤ mostObjects

@@ -23,6 +23,16 @@ count-next-yes n f h = rw add-one (count-yes n f h)
 pub count-next-no : (n : ℕ) (f : ℕ → Formula) → (holds (f n) → ⊥) → count (n + 1) f ≡ count n f
 count-next-no n f h = rw add-one (count-no n f h)
 
+-- a formula holds at no more places than there are
+pub count-most : (n : ℕ) (f : ℕ → Formula) → count n f ≤ n
+unfolding count
+count-most zero f = omega arith
+count-most (suc n) f = go (decide (f n)) (count-most n f)
+  where
+    go : Case (f n) → count n f ≤ n → count (suc n) f ≤ suc n
+    go (it-does x) l = rw (count-yes n f x) (omega arith)
+    go (it-does-not x) l = rw (count-no n f x) (omega arith)
+
 -- what holds at more places has the larger count
 pub count-more : (n : ℕ) (f g : ℕ → Formula) → ((i : ℕ) → i < n → holds (f i) → holds (g i)) → count n f ≤ count n g
 unfolding count

@@ -48,10 +48,10 @@ pub line-refused : (l : Lines) (k n a b : ℕ) {r : Answer} → refusedOf r ≡ 
 unfolding refusedOf madeOf
 line-refused l k n a b e f q = ap (λ (x : Answer). withLine l k (refusedOf x) (madeOf x)) (sym q) ∙ cc (e, f)
 
--- What follows a record with this number, in so many steps more.
-unfoldable pub following : List ℕ → ℕ → ℕ → Session → List ℕ → Went → Run
-following sheet steps number s bytes (On next used) = runFrom sheet steps next number s (linesOf bytes used)
-following sheet steps number s bytes (Stopped used n) = ended s (linesOf bytes used) number n
+-- What follows the record at a place with this number, in so many steps more.
+unfoldable pub following : List ℕ → ℕ → ℕ → ℕ → Session → List ℕ → Went → Run
+following sheet steps at number s bytes (On next used) = runFrom sheet steps next number s (linesOf bytes used)
+following sheet steps at number s bytes (Stopped used n) = ended s (linesOf bytes used) at number n
 
 -- the next record stands behind this one
 unfoldable pub Onward : ℕ → Went → Type 0
@@ -68,7 +68,7 @@ pub record Goes (sheet : List ℕ) (at k : ℕ) (before after lines lines′ : L
   pub same-length : length after ≡ length before
   pub past : drop words after ≡ drop words before
   pub keeps : holds (kept (read before)) → holds (kept (read after))
-  pub goes : (steps : ℕ) → runFrom sheet (suc steps) at k (read before) (linesOf lines used) ≡ following sheet steps (k + 1) (read after) lines′ w
+  pub goes : (steps : ℕ) → runFrom sheet (suc steps) at k (read before) (linesOf lines used) ≡ following sheet steps at (k + 1) (read after) lines′ w
   pub onward : Onward at w
 
 -- What a run leaves: memories, and how it ended.
@@ -76,6 +76,7 @@ pub record Ends (before after lines : List ℕ) (e : Ended) (r : Run) : Type 0 w
   pub session : Wrote before after (r .session)
   pub bytes : lines ≡ r .lines .bytes
   pub used : e .used ≡ r .lines .used
+  pub place : e .place ≡ r .place
   pub number : e .number ≡ r .number
   pub ending : e .ending ≡ r .ending
 
@@ -89,11 +90,11 @@ module _ (sheet : List ℕ) (at k : ℕ) (ws lines : List ℕ) (used : ℕ) (bef
   module _ (room : holds (hasRoom (linesOf lines used))) (lines′ : List ℕ) (used′ : ℕ) where
     -- the sheet is ended by this line
     stopped : (n : ℕ) → linesOf lines′ used′ ≡ withLine (linesOf lines used) (k + 1) n 0
-        → ((steps : ℕ) → runFrom sheet (suc steps) at k (read ws) (linesOf lines used) ≡ endedBy (read ws) (linesOf lines used) (k + 1) n)
+        → ((steps : ℕ) → runFrom sheet (suc steps) at k (read ws) (linesOf lines used) ≡ endedBy (read ws) (linesOf lines used) at (k + 1) n)
         → Goes sheet at k ws ws lines lines′ used (Stopped used′ n)
     unfolding following Onward endedBy
     stopped n e f =
-        record { same-length = refl; past = refl; keeps = λ h. h; goes = λ m. f m ∙ ap (λ (l : Lines). ended (read ws) l (k + 1) n) (sym e); onward = tt }
+        record { same-length = refl; past = refl; keeps = λ h. h; goes = λ m. f m ∙ ap (λ (l : Lines). ended (read ws) l at (k + 1) n) (sym e); onward = tt }
 
     pub goes-unsound : (holds (sound (read ws)) → ⊥) → linesOf lines′ used′ ≡ withLine (linesOf lines used) (k + 1) 2 0
         → Goes sheet at k ws ws lines lines′ used (Stopped used′ 2)
@@ -119,47 +120,48 @@ module _ (sheet : List ℕ) (at k : ℕ) (ws lines : List ℕ) (used : ℕ) (bef
             onward = record-forward sheet at z .onward;
           }
 
--- Where a run from a first record stands, before the record at a place.
-pub record Running (sheet : List ℕ) (first : ℕ) (sure : Bool) (before lines : List ℕ) (used : ℕ) (after lines′ : List ℕ) (at k used′ : ℕ) : Type 0 where
+-- The run from a first record, after so many.
+abbrev pub runOf : List ℕ → ℕ → ℕ → List ℕ → List ℕ → ℕ → Run
+runOf sheet first done before lines used = runFrom sheet (length sheet) first done (read before) (linesOf lines used)
+
+-- Where a run from a first record, after so many, stands before the record at a place.
+pub record Running (sheet : List ℕ) (first done : ℕ) (sure : Bool) (before lines : List ℕ) (used : ℕ) (after lines′ : List ℕ) (at k used′ : ℕ) : Type 0 where
   pub same-length : length after ≡ length before
   pub past : drop words after ≡ drop words before
   pub keeps : sure ≡ true → holds (kept (read after))
   pub count : k ≤ at
-  pub runs : runFrom sheet (length sheet) first 0 (read before) (linesOf lines used) ≡ runFrom sheet (length sheet) at k (read after) (linesOf lines′ used′)
+  pub runs : runOf sheet first done before lines used ≡ runFrom sheet (length sheet) at k (read after) (linesOf lines′ used′)
 
-abbrev pub runOf : List ℕ → ℕ → List ℕ → List ℕ → ℕ → Run
-runOf sheet first before lines used = runFrom sheet (length sheet) first 0 (read before) (linesOf lines used)
-
-pub running-first : (sheet : List ℕ) (first : ℕ) (sure : Bool) (ws lines : List ℕ) (used : ℕ) → (sure ≡ true → holds (kept (read ws)))
-    → Running sheet first sure ws lines used ws lines first 0 used
-running-first sheet first sure ws lines used h = record { same-length = refl; past = refl; keeps = h; count = omega arith; runs = refl }
+pub running-first : (sheet : List ℕ) (first done : ℕ) (sure : Bool) (ws lines : List ℕ) (used : ℕ) → (sure ≡ true → holds (kept (read ws))) → done ≤ first
+    → Running sheet first done sure ws lines used ws lines first done used
+running-first sheet first done sure ws lines used h c = record { same-length = refl; past = refl; keeps = h; count = c; runs = refl }
 
 pub ends-as : (before after lines : List ℕ) (e : Ended) (r : Run) → length after ≡ length before → drop words after ≡ drop words before
-    → r ≡ ended (read after) (linesOf lines (e .used)) (e .number) (e .ending)
+    → r ≡ ended (read after) (linesOf lines (e .used)) (e .place) (e .number) (e .ending)
     → Ends before after lines e r
 ends-as before after lines e r n p q =
-    rw q (record { session = record { same-length = n; reading = refl; past = p }; bytes = refl; used = refl; number = refl; ending = refl })
+    rw q (record { session = record { same-length = n; reading = refl; past = p }; bytes = refl; used = refl; place = refl; number = refl; ending = refl })
 
-module _ (sheet : List ℕ) (first : ℕ) (sure : Bool) (before lines : List ℕ) (used : ℕ) (now-memory now-lines : List ℕ) (at k now-used : ℕ)
-    (g : Running sheet first sure before lines used now-memory now-lines at k now-used) where
+module _ (sheet : List ℕ) (first done : ℕ) (sure : Bool) (before lines : List ℕ) (used : ℕ) (now-memory now-lines : List ℕ) (at k now-used : ℕ)
+    (g : Running sheet first done sure before lines used now-memory now-lines at k now-used) where
   pub running-end : length sheet ≤ at
-      → Ends before now-memory now-lines (record { used = now-used; number = k; ending = 0 }) (runOf sheet first before lines used)
+      → Ends before now-memory now-lines (record { used = now-used; place = at; number = k; ending = 0 }) (runOf sheet first done before lines used)
   running-end h = ends-as _ _ _ _ _ (g .same-length) (g .past) (g .runs ∙ run-end sheet at k (read now-memory) (linesOf now-lines now-used) (length sheet) h)
 
   module _ (inside : at < length sheet) (after lines′ : List ℕ) (used′ : ℕ) where
     -- the run from here is what follows the record
     follows : (w : Went) → Goes sheet at k now-memory after now-lines lines′ now-used w
-        → runOf sheet first before lines used ≡ following sheet (length sheet - 1) (k + 1) (read after) lines′ w
+        → runOf sheet first done before lines used ≡ following sheet (length sheet - 1) at (k + 1) (read after) lines′ w
     follows w o =
         g .runs ∙ steps-enough sheet (length sheet) (suc (length sheet - 1)) at k _ _ (omega arith) (omega arith) ∙ o .goes (length sheet - 1)
 
     pub running-stop : (n : ℕ) → Goes sheet at k now-memory after now-lines lines′ now-used (Stopped used′ n)
-        → Ends before after lines′ (record { used = used′; number = k + 1; ending = n }) (runOf sheet first before lines used)
+        → Ends before after lines′ (record { used = used′; place = at; number = k + 1; ending = n }) (runOf sheet first done before lines used)
     unfolding following
     running-stop n o = ends-as _ _ _ _ _ (o .same-length ∙ g .same-length) (o .past ∙ g .past) (follows (Stopped used′ n) o)
 
     pub running-on : (next : ℕ) → Goes sheet at k now-memory after now-lines lines′ now-used (On next used′)
-        → Running sheet first sure before lines used after lines′ next (k + 1) used′
+        → Running sheet first done sure before lines used after lines′ next (k + 1) used′
     unfolding following Onward
     running-on next o =
         let l = o .onward in

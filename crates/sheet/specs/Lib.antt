@@ -6,5 +6,10 @@ pub mod Whole
 pub mod Closing
 pub mod Settled
 pub mod NeverFull
+pub mod Printed
+pub mod PrintLaws
+pub mod Parts
+pub mod Printing
+pub mod Output
 pub mod SheetDemand
 pub mod SheetContents

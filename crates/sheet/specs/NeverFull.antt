@@ -8,13 +8,12 @@ use mathlib.Core.Path.{_≡_, refl, ap, sym, _∙_}
 use native.Mathlib.Omega.{arith}
 use lib.Dec.{lit<}
 use lib.ListN.{length}
-use borrow.Author.Tests.{le-leb}
 use Rattle.number.specs.Number.{limit32, readAt}
 use Rattle.number.specs.Laws.{value-next}
 use Rattle.number.specs.Splice.{splice-length}
 use Rattle.lines.specs.Line.{line}
 use Rattle.lines.specs.LineLaws.{digits-bound, line-length}
-use Rattle.session.specs.Table.{Session, words}
+use Rattle.session.specs.Table.{Session}
 use Rattle.rules.specs.Arity.{isCode}
 use Rattle.rules.specs.Checks.{Check, refusal}
 use Rattle.rules.specs.Formula.{holds, test, Formula._≐_, Formula._≼_, Formula._then_, Formula.each}
@@ -27,13 +26,10 @@ use Rattle.record.specs.Fields.{AllRead, place-none}
 use Rattle.record.specs.Cases.{accepted}
 use Rattle.record.specs.Laws.{record-forward, record-refusals}
 use Rattle.record.specs.Sheet.{headRefusal, headChecks, firstRecord}
-use Rattle.sheet.specs.declared.Ended.{Ended}
 use Rattle.sheet.specs.Run.{Lines, hasRoom, withLine, Run, ended, endedBy, runFrom, runSheet}
 use Rattle.sheet.specs.RunLaws.{run-end, run-unsound, run-refused, run-on, sheet-unsound, sheet-refused, sheet-runs}
 use Rattle.sheet.specs.Replies.{reply-small, reply-nothing}
-use Rattle.sheet.specs.Going.{linesOf, Ends}
-use Rattle.sheet.specs.Whole.{Ran, head-small}
-use Rattle.sheet.specs.Closing.{withLast, closed, closed-room}
+use Rattle.sheet.specs.Whole.{head-small}
 
 -- A run that did not end by 1, and has room for the last line.
 pub record Closable (r : Run) : Type 0 where
@@ -78,7 +74,7 @@ refusal-other n (c ∷ cs) p u e = go (decide (c .rule)) (refusal-other n cs p (
     go (it-does h) again = again (sym (choose-yes (c .rule) (refusal cs) (c .number) h) ∙ e)
     go (it-does-not f) again = u .0 (sym (choose-no (c .rule) (refusal cs) (c .number) f) ∙ e)
 
-record-not-full : (sheet : List ℕ) (at : ℕ) → recordAt sheet at .refused ≡ 1 → ⊥
+pub record-not-full : (sheet : List ℕ) (at : ℕ) → recordAt sheet at .refused ≡ 1 → ⊥
 unfolding recordAt
 record-not-full sheet at e =
     refusal-other 1 (recordChecks sheet at) (lit< tt) (λ x. omega arith, (λ x. omega arith, (λ x. omega arith, (λ x. omega arith, (λ x. omega arith, tt)))))
@@ -109,22 +105,22 @@ module _ (l : Lines) (a b c : ℕ) (room : holds (hasRoom l)) (ha : a < 100000) 
   line-kept = splice-length (l .bytes) (l .used) (line a b c) (omega (arith, line-small))
 
 -- the line that ends a sheet leaves room for the last one
-closable-by : (s : Session) (l : Lines) (k n : ℕ) → l .used + 64 ≤ length (l .bytes) → k < 100000 → n < 100 → (n ≡ 1 → ⊥) → Closable (endedBy s l k n)
+closable-by : (s : Session) (l : Lines) (at k n : ℕ) → l .used + 64 ≤ length (l .bytes) → k < 100000 → n < 100 → (n ≡ 1 → ⊥) → Closable (endedBy s l at k n)
 unfolding endedBy
-closable-by s l k n h hk hn f =
+closable-by s l at k n h hk hn f =
     let u = line-used l k n 0 (omega arith) hk hn (lit< tt) in
     let e = line-kept l k n 0 (omega arith) hk hn (lit< tt) in
     record { not-full = f; room = omega arith }
 
 -- What is needed before the record at a place.
-pub record Spare (sheet : List ℕ) (at k : ℕ) (l : Lines) : Type 0 where
+record Spare (sheet : List ℕ) (at k : ℕ) (l : Lines) : Type 0 where
   pub small : length sheet < 100000
   pub count : k ≤ at
   pub inside : at ≤ length sheet
   pub bytes : 2 * l .used + 11 * (length sheet - at) + 128 ≤ 2 * length (l .bytes)
 
 -- and it is there before the next one
-pub spare-on : (sheet : List ℕ) (at k : ℕ) (s : Session) (l : Lines) → Spare sheet at k l → at < length sheet → holds (sound s) → recordAt sheet at .refused ≡ 0
+spare-on : (sheet : List ℕ) (at k : ℕ) (s : Session) (l : Lines) → Spare sheet at k l → at < length sheet → holds (sound s) → recordAt sheet at .refused ≡ 0
     → Spare sheet (recordAt sheet at .next) (k + 1) (withLine l (k + 1) (step s (recordAt sheet at .operation) .refused) (step s (recordAt sheet at .operation) .made))
 spare-on sheet at k s l g b is z =
     let op = recordAt sheet at .operation in
@@ -159,7 +155,7 @@ spare-on sheet at k s l g b is z =
         omega (arith, g .bytes)
 
 -- the case of no steps
-run-none : (sheet : List ℕ) (at k : ℕ) (s : Session) (l : Lines) → runFrom sheet zero at k s l ≡ ended s l k 0
+run-none : (sheet : List ℕ) (at k : ℕ) (s : Session) (l : Lines) → runFrom sheet zero at k s l ≡ ended s l at k 0
 unfolding runFrom
 run-none sheet at k s l = refl
 
@@ -175,13 +171,13 @@ run-closable sheet (suc n) at k s l g = ends (decide (length sheet ≼ at)) (run
     reads b o i (it-does-not f) again =
         let m = record-refusals sheet at in
         rw (run-refused sheet at k s l n b o i f)
-        (closable-by s l (k + 1) (recordAt sheet at .refused) (omega (arith, g .bytes)) (omega (arith, g .small, g .count)) (omega arith) (record-not-full sheet at))
+        (closable-by s l at (k + 1) (recordAt sheet at .refused) (omega (arith, g .bytes)) (omega (arith, g .small, g .count)) (omega arith) (record-not-full sheet at))
     reads b o i (it-does z) again = rw (run-on sheet at k s l n b o i z) (again _ _ _ _ (spare-on sheet at k s l g b i z))
 
     sounds : at < length sheet → holds (hasRoom l) → Case (sound s) → Again sheet n → Closable (runFrom sheet (suc n) at k s l)
     sounds b o (it-does-not f) again =
         rw (run-unsound sheet at k s l n b o f)
-        (closable-by s l (k + 1) 2 (omega (arith, g .bytes)) (omega (arith, g .small, g .count)) (lit< tt) (λ e. omega arith))
+        (closable-by s l at (k + 1) 2 (omega (arith, g .bytes)) (omega (arith, g .small, g .count)) (lit< tt) (λ e. omega arith))
     sounds b o (it-does i) again = reads b o i (decide (recordAt sheet at .refused ≐ 0)) again
 
     ends : Case (length sheet ≼ at) → Again sheet n → Closable (runFrom sheet (suc n) at k s l)
@@ -193,7 +189,7 @@ run-closable sheet (suc n) at k s l g = ends (decide (length sheet ≼ at)) (run
         below f = omega arith
 
 -- it is there before the first record
-pub first-spare : (sheet : List ℕ) (l : Lines) → length sheet < 100000 → 2 * l .used + 11 * length sheet + 128 ≤ 2 * length (l .bytes) → headRefusal sheet ≡ 0
+first-spare : (sheet : List ℕ) (l : Lines) → length sheet < 100000 → 2 * l .used + 11 * length sheet + 128 ≤ 2 * length (l .bytes) → headRefusal sheet ≡ 0
     → Spare sheet (firstRecord sheet) 0 l
 first-spare sheet l small h z = record { small = small; count = omega arith; inside = head-inside sheet z; bytes = omega arith }
 
@@ -208,25 +204,11 @@ never-full sheet s l small h = sounds (decide (sound s))
     heads : holds (sound s) → Case (headRefusal sheet ≐ 0) → Closable (runSheet sheet s l)
     heads i (it-does-not f) =
         let m = head-small sheet in
-        rw (sheet-refused sheet s l room i f) (closable-by s l 0 (headRefusal sheet) (omega arith) (lit< tt) (omega arith) (head-not-full sheet))
+        rw (sheet-refused sheet s l room i f) (closable-by s l 0 0 (headRefusal sheet) (omega arith) (lit< tt) (omega arith) (head-not-full sheet))
     heads i (it-does z) =
         rw (sheet-runs sheet s l room i z)
         (run-closable sheet (length sheet) (firstRecord sheet) 0 s l (first-spare sheet l small h z))
 
     sounds : Case (sound s) → Closable (runSheet sheet s l)
-    sounds (it-does-not f) = rw (sheet-unsound sheet s l room f) (closable-by s l 0 2 (omega arith) (lit< tt) (lit< tt) (λ e. omega arith))
+    sounds (it-does-not f) = rw (sheet-unsound sheet s l room f) (closable-by s l 0 0 2 (omega arith) (lit< tt) (lit< tt) (λ e. omega arith))
     sounds (it-does i) = heads i (decide (headRefusal sheet ≐ 0))
-
--- The sheet program reads 32,768 bytes at most, and lends memory for a session and, unused, 11 bytes for the lines for two of
--- the sheet's and 64 more: its run "never meets 1", and its last line is written.
-pub never-meets-1 : (sheet before after lines lines′ : List ℕ) (e : Ended) (s : Session)
-    → length sheet ≤ 32768
-    → 11 * length sheet + 128 ≤ 2 * length lines
-    → words ≤ length before
-    → Ran sheet before after lines lines′ 0 e s
-    → (e .ending ≡ 1 → ⊥) × (closed after (linesOf lines′ (e .used)) ≡ withLast after (linesOf lines′ (e .used)))
-never-meets-1 sheet before after lines lines′ e s short long memory x =
-    let y : Ends before after lines′ e (runSheet sheet s (linesOf lines 0)) = rw (le-leb words (length before) memory) at x in
-    let c = never-full sheet s (linesOf lines 0) (omega arith) (omega arith) in
-    let room : holds (hasRoom (linesOf lines′ (e .used))) = rw (y .bytes, y .used) (c .room) in
-    (λ z. c .not-full (sym (y .ending) ∙ z), closed-room after (linesOf lines′ (e .used)) (omega (arith, y .session .same-length), room))

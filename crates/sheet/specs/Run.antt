@@ -29,41 +29,42 @@ hasRoom l = l .used + lineRoom ≼ length (l .bytes)
 unfoldable pub withLine : Lines → ℕ → ℕ → ℕ → Lines
 withLine l a b c = record { bytes = splice (l .bytes) (l .used) (line a b c); used = l .used + length (line a b c) }
 
--- Where a run stands: the session, the lines, the record begun last (0 for the sheet's first number), and the refusal that
--- ended it: 0 at the sheet's end.
+-- Where a run stands: the session, the lines, the place in the sheet of the record that was not run or of the sheet's end, the
+-- number of the record begun last (0 for the sheet's first number), and the refusal that ended it: 0 at the sheet's end.
 pub record Run : Type 0 where
   pub session : Session
   pub lines : Lines
+  pub place : ℕ
   pub number : ℕ
   pub ending : ℕ
 
-abbrev pub ended : Session → Lines → ℕ → ℕ → Run
-ended s l k n = record { session = s; lines = l; number = k; ending = n }
+abbrev pub ended : Session → Lines → ℕ → ℕ → ℕ → Run
+ended s l at k n = record { session = s; lines = l; place = at; number = k; ending = n }
 
 -- "Refusals 2 to 6 end the sheet with that line, numbered as the record begun"
-unfoldable pub endedBy : Session → Lines → ℕ → ℕ → Run
-endedBy s l k n = ended s (withLine l k n 0) k n
+unfoldable pub endedBy : Session → Lines → ℕ → ℕ → ℕ → Run
+endedBy s l at k n = ended s (withLine l k n 0) at k n
 
 -- The records from a place on, in so many steps, after k records. Each record meets 1 ("1 ends a run without a line, the record
 -- not run"), then 2, then 3, 4 and 6 as it is read, and then is a single operation.
 unfoldable pub runFrom : List ℕ → ℕ → ℕ → ℕ → Session → Lines → Run
-runFrom sheet zero at k s l = ended s l k 0
+runFrom sheet zero at k s l = ended s l at k 0
 runFrom sheet (suc steps) at k s l =
     let r = recordAt sheet at in
     let reply = step s (r .operation) in
-    choose (length sheet ≼ at) (ended s l k 0)
-    (choose (not (hasRoom l)) (ended s l (k + 1) 1)
-    (choose (not (sound s)) (endedBy s l (k + 1) 2)
-    (choose (not (r .refused ≐ 0)) (endedBy s l (k + 1) (r .refused))
+    choose (length sheet ≼ at) (ended s l at k 0)
+    (choose (not (hasRoom l)) (ended s l at (k + 1) 1)
+    (choose (not (sound s)) (endedBy s l at (k + 1) 2)
+    (choose (not (r .refused ≐ 0)) (endedBy s l at (k + 1) (r .refused))
     (runFrom sheet steps (r .next) (k + 1) (reply .leaves) (withLine l (k + 1) (reply .refused) (reply .made))))))
 
 -- A whole sheet over a session: 1, then 2, then the first number's 3, 4 and 5 as record 0, then the records. Each record takes a
 -- byte at least, so that the sheet's length is steps enough.
 unfoldable pub runSheet : List ℕ → Session → Lines → Run
 runSheet sheet s l =
-    choose (not (hasRoom l)) (ended s l 0 1)
-    (choose (not (sound s)) (endedBy s l 0 2)
-    (choose (not (headRefusal sheet ≐ 0)) (endedBy s l 0 (headRefusal sheet))
+    choose (not (hasRoom l)) (ended s l 0 0 1)
+    (choose (not (sound s)) (endedBy s l 0 0 2)
+    (choose (not (headRefusal sheet ≐ 0)) (endedBy s l 0 0 (headRefusal sheet))
     (runFrom sheet (length sheet) (firstRecord sheet) 0 s l)))
 
 -- "The last line, printed after any ending, gives live tasks, undelivered links, dropped."

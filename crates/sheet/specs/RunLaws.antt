@@ -16,7 +16,7 @@ use Rattle.sheet.specs.Run.{Lines, hasRoom, withLine, ended, endedBy, ru
 
 module _ (sheet : List ℕ) (at k : ℕ) (s : Session) (l : Lines) where
   -- the sheet's end
-  pub run-end : (n : ℕ) → length sheet ≤ at → runFrom sheet n at k s l ≡ ended s l k 0
+  pub run-end : (n : ℕ) → length sheet ≤ at → runFrom sheet n at k s l ≡ ended s l at k 0
   unfolding runFrom
   run-end zero h = refl
   run-end (suc n) h = choose-yes (length sheet ≼ at) _ _ h
@@ -26,19 +26,19 @@ module _ (sheet : List ℕ) (at k : ℕ) (s : Session) (l : Lines) where
     begun h = omega arith
 
     -- no room for a line
-    pub run-full : (holds (hasRoom l) → ⊥) → runFrom sheet (suc n) at k s l ≡ ended s l (k + 1) 1
+    pub run-full : (holds (hasRoom l) → ⊥) → runFrom sheet (suc n) at k s l ≡ ended s l at (k + 1) 1
     unfolding runFrom
     run-full unmet = choose-no (length sheet ≼ at) _ _ begun ∙ choose-yes (not (hasRoom l)) _ _ unmet
 
     module _ (room : holds (hasRoom l)) where
-      pub run-unsound : (holds (sound s) → ⊥) → runFrom sheet (suc n) at k s l ≡ endedBy s l (k + 1) 2
+      pub run-unsound : (holds (sound s) → ⊥) → runFrom sheet (suc n) at k s l ≡ endedBy s l at (k + 1) 2
       unfolding runFrom
       run-unsound unmet =
           choose-no (length sheet ≼ at) _ _ begun ∙ choose-no (not (hasRoom l)) _ _ (λ f. f room) ∙ choose-yes (not (sound s)) _ _ unmet
 
       module _ (is : holds (sound s)) where
         -- a record that is refused as it is read
-        pub run-refused : (recordAt sheet at .refused ≡ 0 → ⊥) → runFrom sheet (suc n) at k s l ≡ endedBy s l (k + 1) (recordAt sheet at .refused)
+        pub run-refused : (recordAt sheet at .refused ≡ 0 → ⊥) → runFrom sheet (suc n) at k s l ≡ endedBy s l at (k + 1) (recordAt sheet at .refused)
         unfolding runFrom
         run-refused unmet =
             choose-no (length sheet ≼ at) _ _ begun ∙ choose-no (not (hasRoom l)) _ _ (λ f. f room) ∙ choose-no (not (sound s)) _ _ (λ f. f is)
@@ -93,16 +93,16 @@ steps-enough sheet (suc n) (suc m) at k s l hn hm = ends (decide (length sheet �
 
 -- the cases of a whole sheet
 module _ (sheet : List ℕ) (s : Session) (l : Lines) where
-  pub sheet-full : (holds (hasRoom l) → ⊥) → runSheet sheet s l ≡ ended s l 0 1
+  pub sheet-full : (holds (hasRoom l) → ⊥) → runSheet sheet s l ≡ ended s l 0 0 1
   unfolding runSheet
   sheet-full unmet = choose-yes (not (hasRoom l)) _ _ unmet
 
   module _ (room : holds (hasRoom l)) where
-    pub sheet-unsound : (holds (sound s) → ⊥) → runSheet sheet s l ≡ endedBy s l 0 2
+    pub sheet-unsound : (holds (sound s) → ⊥) → runSheet sheet s l ≡ endedBy s l 0 0 2
     unfolding runSheet
     sheet-unsound unmet = choose-no (not (hasRoom l)) _ _ (λ f. f room) ∙ choose-yes (not (sound s)) _ _ unmet
 
-    pub sheet-refused : holds (sound s) → (headRefusal sheet ≡ 0 → ⊥) → runSheet sheet s l ≡ endedBy s l 0 (headRefusal sheet)
+    pub sheet-refused : holds (sound s) → (headRefusal sheet ≡ 0 → ⊥) → runSheet sheet s l ≡ endedBy s l 0 0 (headRefusal sheet)
     unfolding runSheet
     sheet-refused is unmet =
         choose-no (not (hasRoom l)) _ _ (λ f. f room) ∙ choose-no (not (sound s)) _ _ (λ f. f is) ∙ choose-yes (not (headRefusal sheet ≐ 0)) _ _ unmet

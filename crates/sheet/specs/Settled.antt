@@ -83,6 +83,10 @@ module _ (s : Session) where
             go (it-does e) = e
             go (it-does-not n) = absurd (f (s LinkTarget l) (target-made l h) (s LinkSlot l) (x .1) (omega arith) (l, h, ((refl, refl), x .0)))
 
+pub kept-sound : (s : Session) → holds (kept s) → holds (sound s)
+unfolding kept
+kept-sound s k = k .0
+
 -- a sound session is kept exactly if it is settled
 pub kept-test : (s : Session) → holds (sound s) → test (kept s) ≡ test (settled s)
 unfolding kept

@@ -29,7 +29,7 @@ abbrev pub Ran : List ℕ → List ℕ → List ℕ → List ℕ → List ℕ �
 Ran sheet before after lines lines′ used e s =
     pick (leb words (length before))
     (Ends before after lines′ e (runSheet sheet s (linesOf lines used)))
-    ((after ≡ before) × (lines′ ≡ lines) × (e ≡ record { used = used; number = 0; ending = 1 }))
+    ((after ≡ before) × (lines′ ≡ lines) × (e ≡ record { used = used; place = 0; number = 0; ending = 1 }))
 
 -- the sheet's first number, from its answer
 module _ (sheet : List ℕ) where
@@ -58,37 +58,37 @@ module _ (sheet : List ℕ) where
 
 module _ (sheet ws lines : List ℕ) (used : ℕ) where
   pub ends-full : (holds (hasRoom (linesOf lines used)) → ⊥)
-      → Ends ws ws lines (record { used = used; number = 0; ending = 1 }) (runSheet sheet (read ws) (linesOf lines used))
+      → Ends ws ws lines (record { used = used; place = 0; number = 0; ending = 1 }) (runSheet sheet (read ws) (linesOf lines used))
   ends-full f = ends-as _ _ _ _ _ refl refl (sheet-full sheet (read ws) (linesOf lines used) f)
 
   module _ (room : holds (hasRoom (linesOf lines used))) where
     -- the sheet is ended by this line
     stopped : (lines′ : List ℕ) (used′ n : ℕ) → linesOf lines′ used′ ≡ withLine (linesOf lines used) 0 n 0
-        → runSheet sheet (read ws) (linesOf lines used) ≡ endedBy (read ws) (linesOf lines used) 0 n
-        → Ends ws ws lines′ (record { used = used′; number = 0; ending = n }) (runSheet sheet (read ws) (linesOf lines used))
+        → runSheet sheet (read ws) (linesOf lines used) ≡ endedBy (read ws) (linesOf lines used) 0 0 n
+        → Ends ws ws lines′ (record { used = used′; place = 0; number = 0; ending = n }) (runSheet sheet (read ws) (linesOf lines used))
     unfolding endedBy
-    stopped lines′ used′ n e f = ends-as _ _ _ _ _ refl refl (f ∙ ap (λ (l : Lines). ended (read ws) l 0 n) (sym e))
+    stopped lines′ used′ n e f = ends-as _ _ _ _ _ refl refl (f ∙ ap (λ (l : Lines). ended (read ws) l 0 0 n) (sym e))
 
     pub ends-unsound : (lines′ : List ℕ) (used′ : ℕ) → (holds (sound (read ws)) → ⊥) → linesOf lines′ used′ ≡ withLine (linesOf lines used) 0 2 0
-        → Ends ws ws lines′ (record { used = used′; number = 0; ending = 2 }) (runSheet sheet (read ws) (linesOf lines used))
+        → Ends ws ws lines′ (record { used = used′; place = 0; number = 0; ending = 2 }) (runSheet sheet (read ws) (linesOf lines used))
     ends-unsound lines′ used′ f e = stopped lines′ used′ 2 e (sheet-unsound sheet (read ws) (linesOf lines used) room f)
 
     pub ends-refused : (lines′ : List ℕ) (used′ n : ℕ) → holds (sound (read ws)) → headAt sheet ≡ Refused n
         → linesOf lines′ used′ ≡ withLine (linesOf lines used) 0 n 0
-        → Ends ws ws lines′ (record { used = used′; number = 0; ending = n }) (runSheet sheet (read ws) (linesOf lines used))
+        → Ends ws ws lines′ (record { used = used′; place = 0; number = 0; ending = n }) (runSheet sheet (read ws) (linesOf lines used))
     ends-refused lines′ used′ n is h e =
         let r = head-number sheet n h in
         stopped lines′ used′ n e (rw (r .0) (sheet-refused sheet (read ws) (linesOf lines used) room is (r .1)))
 
     pub ends-runs : (after lines′ : List ℕ) (e : Ended) (first : ℕ) → holds (sound (read ws)) → headAt sheet ≡ Behind first
-        → Ends ws after lines′ e (runOf sheet first ws lines used)
+        → Ends ws after lines′ e (runOf sheet first 0 ws lines used)
         → Ends ws after lines′ e (runSheet sheet (read ws) (linesOf lines used))
     ends-runs after lines′ e first is h x =
         let r = head-first sheet first h in
         rw (sheet-runs sheet (read ws) (linesOf lines used) room is (r .0), ← r .1) x
 
 module _ (sheet before lines : List ℕ) (used : ℕ) (s : Session) where
-  pub ran-short : length before < words → Ran sheet before before lines lines used (record { used = used; number = 0; ending = 1 }) s
+  pub ran-short : length before < words → Ran sheet before before lines lines used (record { used = used; place = 0; number = 0; ending = 1 }) s
   ran-short h = rw (lt-leb words (length before) h) (refl, refl, refl)
 
   pub ran-whole : (after lines′ : List ℕ) (e : Ended) → words ≤ length before → Ends before after lines′ e (runSheet sheet s (linesOf lines used))
@@ -101,14 +101,14 @@ pub ends-then : (sheet before middle after lines lines′ : List ℕ) (used : �
     → Ends before after lines′ e (runSheet sheet s (linesOf lines used))
 ends-then sheet before middle after lines lines′ used e s w x =
     let y = rw (w .reading) at x in
-    record { session = wrote-then w (y .session); bytes = y .bytes; used = y .used; number = y .number; ending = y .ending }
+    record { session = wrote-then w (y .session); bytes = y .bytes; used = y .used; place = y .place; number = y .number; ending = y .ending }
 
 pub fresh-there : (before after : List ℕ) → Wrote before after freshSession → holds (kept (read after))
 fresh-there before after w = rw (w .reading) fresh-kept
 
 -- the answer of writing a fresh session, and what it leaves
 pub fresh-short : (sheet before after lines : List ℕ) (used : ℕ) → leb words (length before) ≡ false → Leaves before after freshSession
-    → Ran sheet before after lines lines used (record { used = used; number = 0; ending = 1 }) freshSession
+    → Ran sheet before after lines lines used (record { used = used; place = 0; number = 0; ending = 1 }) freshSession
 fresh-short sheet before after lines used e l = rw e (rw e at l, refl, refl)
 
 pub fresh-written : (before after : List ℕ) → leb words (length before) ≡ true → Leaves before after freshSession → Wrote before after freshSession

@@ -14,8 +14,10 @@ ghost use Rattle.sheet.specs.Whole.{Ran};
 ghost use Rattle.sheet.specs.Closing.{closed};
 
 mod counts;
+mod printing;
 mod settled;
 
+pub use printing::print_run;
 use record::Place;
 use rules::Answer;
 use rules::Operation;
@@ -25,10 +27,11 @@ use session::Field;
 // How many bytes must be free before a line is written.
 pub const LINE_ROOM: usize = 32;
 
-// How a run ended: the length of the lines, the number of the record begun last (0 for the sheet's first number), and the
-// refusal that ended it, 0 at the sheet's end.
+// How a run ended: the length of the lines, the place of the record that was not run or of the sheet's end, the number of the
+// record begun last (0 for the sheet's first number), and the refusal that ended it, 0 at the sheet's end.
 pub struct Ended {
     pub used: usize,
+    pub place: usize,
     pub number: u64,
     pub ending: u64,
 }
@@ -131,23 +134,26 @@ fn run_record(
     )
 }
 
-// Runs the records from a place on. Internal.
+// Runs the records from a place on, before which there are so many. Internal.
 fn run_records(
     sheet: &[u8],
     first: usize,
+    done: u64,
     memory: &mut [u64],
     lines: &mut [u8],
     used: usize,
     sure: bool,
 ) -> Ended
-    requires { ⌜ (words ≤ length (now memory)) × (sure ≡ true → holds (kept (read (now memory)))) ⌝ }
+    requires { ⌜
+        (words ≤ length (now memory)) × (sure ≡ true → holds (kept (read (now memory)))) × (done ≤ first)
+        ⌝ }
     ensures { λ r. ⌜
-        Ends (now (memory .entry)) (now (memory .exit)) (now (lines .exit)) r (runOf (now (sheet .entry)) first (now (memory .entry)) (now (lines .entry)) used)
+        Ends (now (memory .entry)) (now (memory .exit)) (now (lines .exit)) r (runOf (now (sheet .entry)) first done (now (memory .entry)) (now (lines .entry)) used)
         ⌝ }
 {
     let mut at = first;
     let mut behind = used;
-    let mut k: u64 = 0;
+    let mut k = done;
     while at < sheet.len() {
         match run_record(sheet, at, k, memory, lines, behind, sure) {
             Went::On(next, longer) => {
@@ -158,6 +164,7 @@ fn run_records(
             Went::Stopped(last, ending) => {
                 return Ended {
                     used: last,
+                    place: at,
                     number: k + 1,
                     ending,
                 };
@@ -166,6 +173,7 @@ fn run_records(
     }
     Ended {
         used: behind,
+        place: at,
         number: k,
         ending: 0,
     }
@@ -181,6 +189,7 @@ fn run_whole(sheet: &[u8], memory: &mut [u64], lines: &mut [u8], used: usize, su
     if !has_room(lines, used) {
         return Ended {
             used,
+            place: 0,
             number: 0,
             ending: refusals::NO_ROOM,
         };
@@ -189,6 +198,7 @@ fn run_whole(sheet: &[u8], memory: &mut [u64], lines: &mut [u8], used: usize, su
         let last = put_answer(lines, used, 0, refusals::NOT_SOUND, 0);
         return Ended {
             used: last,
+            place: 0,
             number: 0,
             ending: refusals::NOT_SOUND,
         };
@@ -198,11 +208,12 @@ fn run_whole(sheet: &[u8], memory: &mut [u64], lines: &mut [u8], used: usize, su
             let last = put_answer(lines, used, 0, n, 0);
             Ended {
                 used: last,
+                place: 0,
                 number: 0,
                 ending: n,
             }
         }
-        Place::Behind(first) => run_records(sheet, first, memory, lines, used, sure),
+        Place::Behind(first) => run_records(sheet, first, 0, memory, lines, used, sure),
     }
 }
 
@@ -228,6 +239,7 @@ pub fn run(sheet: &[u8], memory: &mut [u64], lines: &mut [u8], used: usize) -> E
     if memory.len() < session::names::WORDS {
         return Ended {
             used,
+            place: 0,
             number: 0,
             ending: refusals::NO_ROOM,
         };
@@ -246,6 +258,7 @@ pub fn run_fresh(sheet: &[u8], memory: &mut [u64], lines: &mut [u8], used: usize
     if !session::write_fresh(memory) {
         return Ended {
             used,
+            place: 0,
             number: 0,
             ending: refusals::NO_ROOM,
         };

@@ -1,6 +1,7 @@
 -- `sheet::answer_record` meets its contract: the reply's numbers are small, and its line is written.
+use Prim.Native.Nat.{_<_}
 use mathlib.Core.Path.{_∙_}
-use lib.Dec.{lit<}
+use native.Mathlib.Omega.{arith}
 use Rattle.session.specs.Table.{read}
 use Rattle.sheet.specs.Replies.{reply-small}
 use Rattle.sheet.specs.Going.{reply-accepted, reply-refused, line-accepted, line-refused}
@@ -18,7 +19,8 @@ put-answer-requires : tie.Need-put-answer-requires
 put-answer-requires c κs =
     let s = c .before .before .before .before .before .before .before .before .before .before in
     let small = reply-small (read (s .args .memory .now)) (s .args .op) (s .pre .1) in
-    (s .pre .2, lit< tt, rw (reply-accepted _ _ (c .before .before .before .before .before .before .apply-sound .ensures .made) (c .before .before .made .given .1)) (small .1))
+    let b : c .before .before .made .given .0 .0 < 10000 = rw (reply-accepted _ _ (c .before .before .before .before .before .before .apply-sound .ensures .made) (c .before .before .made .given .1)) (small .1) in
+    (s .pre .2, omega (arith, b), omega (arith, b))
 
 enum-known-refused : tie.Need-enum-known-refused
 enum-known-refused c = search needs
@@ -27,7 +29,8 @@ put-answer-requires-2 : tie.Need-put-answer-requires-2
 put-answer-requires-2 c κs =
     let s = c .before .before .before .before .before .before .before .before .before .before in
     let small = reply-small (read (s .args .memory .now)) (s .args .op) (s .pre .1) in
-    (s .pre .2, rw (reply-refused _ _ (c .before .before .before .before .before .before .apply-sound .ensures .refused) (c .before .before .refused .given .1)) (small .0), lit< tt)
+    let b : c .before .before .refused .given .0 .0 < 100 = rw (reply-refused _ _ (c .before .before .before .before .before .before .apply-sound .ensures .refused) (c .before .before .refused .given .1)) (small .0) in
+    (s .pre .2, omega (arith, b), omega (arith, b))
 
 same-length : tie.Need-same-length
 same-length c = search needs

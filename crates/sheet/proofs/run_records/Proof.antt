@@ -9,13 +9,13 @@ use Rattle.sheet.proofs.run_records.Statement.{statement}
 use Rattle.sheet.proofs.run_records.Tie as tie
 
 abbrev Inv-loop : tie.InvT-loop
-Inv-loop sheet first memory₀ lines₀ used sure at₀ behind₀ k₀ memory lines at behind k = Running sheet first sure memory₀ lines₀ used memory lines at k behind × (length lines ≡ length lines₀)
+Inv-loop sheet first done memory₀ lines₀ used sure at₀ behind₀ k₀ memory lines at behind k = Running sheet first done sure memory₀ lines₀ used memory lines at k behind × (length lines ≡ length lines₀)
 
 abbrev μ-loop : tie.MeasureT-loop
-μ-loop sheet first memory₀ lines₀ used sure at₀ behind₀ k₀ memory lines at behind k = length sheet - at
+μ-loop sheet first done memory₀ lines₀ used sure at₀ behind₀ k₀ memory lines at behind k = length sheet - at
 
 loop-holds : tie.Need-loop-holds Inv-loop μ-loop
-loop-holds c = (running-first _ _ _ _ _ _ (c .before .before .before .pre .1), refl)
+loop-holds c = (running-first _ _ _ _ _ _ _ (c .before .before .before .pre .1) (c .before .before .before .pre .2), refl)
 
 run-record-requires : tie.Need-run-record-requires Inv-loop μ-loop
 run-record-requires c κs =
@@ -37,13 +37,13 @@ loop-again : tie.Need-loop-again Inv-loop μ-loop
 loop-again c =
     let l = c .before .before .before .before .before .before .before .before .before .before .before .loop in
     let o = rw (c .before .next .given .1) at (c .before .before .before .before .before .before .before .run-record .ensures) in
-    (running-on _ _ _ _ _ _ _ _ _ _ _ (l .inv .0) (c .before .before .before .before .before .before .before .before .before .before .loop-test .taken) _ _ _ _ o, c .before .before .before .before .before .before .before .run-record .kept .1 .1 .1 .1 .0 ∙ l .inv .1)
+    (running-on _ _ _ _ _ _ _ _ _ _ _ _ (l .inv .0) (c .before .before .before .before .before .before .before .before .before .before .loop-test .taken) _ _ _ _ o, c .before .before .before .before .before .before .before .run-record .kept .1 .1 .1 .1 .0 ∙ l .inv .1)
 
 enum-known-last : tie.Need-enum-known-last Inv-loop μ-loop
 enum-known-last c = search needs
 
-add-t21 : tie.Need-add-t21 Inv-loop μ-loop
-add-t21 c = omega (arith, c .before .before .before .before .before .before .before .before .before .before .before .loop .inv .0 .count)
+add-t22 : tie.Need-add-t22 Inv-loop μ-loop
+add-t22 c = omega (arith, c .before .before .before .before .before .before .before .before .before .before .before .loop .inv .0 .count)
 
 same-length : tie.Need-same-length Inv-loop μ-loop
 same-length c = c .before .before .before .before .before .before .before .run-record .ensures .same-length ∙ c .before .before .before .before .before .before .before .before .before .before .before .loop .inv .0 .same-length
@@ -54,7 +54,7 @@ same-length-2 c = c .before .before .before .before .before .before .before .run
 returns : tie.Need-returns Inv-loop μ-loop
 returns c =
     let o = rw (c .before .last .given .1) at (c .before .before .before .before .before .before .before .run-record .ensures) in
-    running-stop _ _ _ _ _ _ _ _ _ _ _ (c .before .before .before .before .before .before .before .before .before .before .before .loop .inv .0) (c .before .before .before .before .before .before .before .before .before .before .loop-test .taken) _ _ _ _ o
+    running-stop _ _ _ _ _ _ _ _ _ _ _ _ (c .before .before .before .before .before .before .before .before .before .before .before .loop .inv .0) (c .before .before .before .before .before .before .before .before .before .before .loop-test .taken) _ _ _ _ o
 
 same-length-3 : tie.Need-same-length-3 Inv-loop μ-loop
 same-length-3 c = c .before .loop .inv .0 .same-length
@@ -63,7 +63,7 @@ same-length-4 : tie.Need-same-length-4 Inv-loop μ-loop
 same-length-4 c = c .before .loop .inv .1
 
 returns-2 : tie.Need-returns-2 Inv-loop μ-loop
-returns-2 c = running-end _ _ _ _ _ _ _ _ _ _ _ (c .before .loop .inv .0) (omega arith)
+returns-2 c = running-end _ _ _ _ _ _ _ _ _ _ _ _ (c .before .loop .inv .0) (omega arith)
 
 pub run-records-spec : {M : Type 1} → statement M
 run-records-spec =
@@ -78,7 +78,7 @@ run-records-spec =
     loop-less
     loop-again
     enum-known-last
-    add-t21
+    add-t22
     same-length
     same-length-2
     returns

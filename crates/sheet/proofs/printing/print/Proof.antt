@@ -1,10 +1,10 @@
--- `ocr_sheet::print` meets its contract: it writes the used part of the lines.
+-- `sheet::printing::print` meets its contract: it writes the used part of the lines.
 use mathlib.Core.Path.{sym}
 use native.Mathlib.Omega.{arith}
 use lib.Seq.{length-take-le}
 use borrow.Author.Needs.{needs}
-use Rattle.ocr_sheet.proofs.print.Statement.{statement}
-use Rattle.ocr_sheet.proofs.print.Tie as tie
+use Rattle.sheet.proofs.printing.print.Statement.{statement}
+use Rattle.sheet.proofs.printing.print.Tie as tie
 
 slice-aggregate-write-all : tie.Need-slice-aggregate-write-all
 slice-aggregate-write-all c = sym (length-take-le _ _ (omega arith))

@@ -1,0 +1,48 @@
+-- What the sheet program prints (document 01, "Sheets and lines"). It "never meets 1": its lines are taken away as they come, so
+-- that no line memory is spoken of.
+use Prim.Native.Nat.{ℕ, zero, suc, _+_}
+use mathlib.Core.List.{List, [], _++_}
+use lib.ListN.{length}
+use Rattle.lines.specs.Line.{line}
+use Rattle.session.specs.Table.{Session}
+use Rattle.session.specs.Fresh.{freshSession}
+use Rattle.rules.specs.Formula.{choose, not, Formula._≐_, Formula._≼_}
+use Rattle.rules.specs.Sound.{sound}
+use Rattle.rules.specs.Step.{step}
+use Rattle.record.specs.Reading.{recordAt}
+use Rattle.record.specs.Sheet.{headRefusal, firstRecord}
+use Rattle.sheet.specs.Run.{lastLine}
+
+-- Bytes printed, and the session that is left.
+pub record Printed : Type 0 where
+  pub text : List ℕ
+  pub session : Session
+
+abbrev pub prints : List ℕ → Session → Printed
+prints x s = record { text = x; session = s }
+
+abbrev pub after : List ℕ → Printed → Printed
+after x p = prints (x ++ p .text) (p .session)
+
+-- The lines of the records from a place on, in so many steps, after k records: each record meets 2, then 3, 4 and 6 as it is read,
+-- and then is a single operation, and its line has "its number from 1, the refusal (0 if accepted), and the handle or link made".
+unfoldable pub printFrom : List ℕ → ℕ → ℕ → ℕ → Session → Printed
+printFrom sheet zero at k s = prints [] s
+printFrom sheet (suc steps) at k s =
+    let r = recordAt sheet at in
+    let reply = step s (r .operation) in
+    choose (length sheet ≼ at) (prints [] s)
+    (choose (not (sound s)) (prints (line (k + 1) 2 0) s)
+    (choose (not (r .refused ≐ 0)) (prints (line (k + 1) (r .refused) 0) s)
+    (after (line (k + 1) (reply .refused) (reply .made)) (printFrom sheet steps (r .next) (k + 1) (reply .leaves)))))
+
+-- The lines of a whole sheet: 2, then the first number's 3, 4 and 5 as record 0, then the records.
+unfoldable pub printSheet : List ℕ → Session → Printed
+printSheet sheet s =
+    choose (not (sound s)) (prints (line 0 2 0) s)
+    (choose (not (headRefusal sheet ≐ 0)) (prints (line 0 (headRefusal sheet) 0) s)
+    (printFrom sheet (length sheet) (firstRecord sheet) 0 s))
+
+-- All that the program prints: the lines from a fresh session, and "the last line, printed after any ending".
+unfoldable pub output : List ℕ → List ℕ
+output sheet = printSheet sheet freshSession .text ++ lastLine (printSheet sheet freshSession .session)
