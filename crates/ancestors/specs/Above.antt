@@ -12,25 +12,9 @@ use Rattle.session.specs.declared.Field.the-variants.{Objects, TaskCreator}
 use Rattle.rules.specs.Formula.{Formula, holds, choose, Formula._and_, Formula._or_, Formula.some, Formula.never}
 use Rattle.rules.specs.FormulaLaws.{Case, decide, choose-yes, choose-no, Case.it-does, Case.it-does-not}
 use Rattle.rules.specs.Reading.{under, isLive, busy}
-use Rattle.rules.specs.Sound.{objects, roots, creators, creator, taskPart}
+use Rattle.rules.specs.Sound.{creator}
 use Rattle.laws.specs.Places.{Places, places, Places.one, Places.two}
-use Rattle.laws.specs.Under.{under-enough, or-map}
-
--- a creator is lower than what it made
-abbrev pub Falls : Session → Type 0
-Falls s = (h : ℕ) → h ≤ s Objects 0 → 1 ≤ s TaskCreator h → s TaskCreator h < h
-
--- what the rules that come first say of creators
-pub creators-fall : (s : Session) → holds (objects s) → holds (roots s) → holds (creators s) → Falls s
-creators-fall s o r cs h l m = go (o .1 h (omega arith) .1 .1 .0)
-  where
-    lower : holds (creator s h) → s TaskCreator h < h
-    lower (inl e) = let z : s TaskCreator h ≡ 0 = rw e (r .1 .1 .1 .0) in absurd (omega arith)
-    lower (inr x) = x .1 .0
-
-    go : holds (taskPart s h) → s TaskCreator h < h
-    go (inl x) = lower (cs h (omega arith) (x .0))
-    go (inr x) = let z : s TaskCreator h ≡ 0 = x .1 .1 .0 in absurd (omega arith)
+use Rattle.laws.specs.Under.{under-enough, or-map, Falls}
 
 pub creator-low : (s : Session) → Falls s → (h : ℕ) → h ≤ s Objects 0 → s TaskCreator h ≤ h
 creator-low s falls h l = go (decLt 0 (s TaskCreator h))

@@ -7,7 +7,8 @@ ghost use Rattle.session.specs.Table.{read, words};
 ghost use Rattle.session.specs.declared.Field.the-variants.{Objects};
 ghost use Rattle.rules.specs.Formula.{test, Formula.never};
 ghost use Rattle.rules.specs.Reading.{isLive, busy};
-ghost use Rattle.ancestors.specs.Above.{Falls, ClosedBut, Above, Shows, busyBelow};
+ghost use Rattle.laws.specs.Under.{Falls};
+ghost use Rattle.ancestors.specs.Above.{ClosedBut, Above, Shows, busyBelow};
 
 // Marks the creator of h, its creator and so on, up to a task that is marked already: all above it are then marked too.
 // Internal: callers have shown that creators are lower, and that marks are closed but for h itself.
@@ -28,7 +29,7 @@ fn mark_above(s: &[u64], marks: &mut [u64], h: u64)
 }
 
 // Whether h is a live task. Internal, as `get` is.
-fn is_live(s: &[u64], h: u64) -> bool
+pub fn is_live(s: &[u64], h: u64) -> bool
     requires { ⌜ (words ≤ length (now s)) × (h ≤ 512) ⌝ }
     ensures { λ r. ⌜ r ≡ test (isLive (read (now (s .entry))) h) ⌝ }
 {

@@ -8,7 +8,7 @@ use Rattle.session.specs.declared.Field.the-variants.{Kind, TemplateState, Task
 use Rattle.session.specs.Names.{template, task, event, block, templateDestroyed, ended, fired, destroyedUnfired, doomed, once, latch}
 use Rattle.rules.specs.Formula.{Formula, holds, test, Formula._≐_, Formula._≼_, Formula._and_, Formula._or_}
 use Rattle.rules.specs.Reading.{isGone}
-use Rattle.checks.specs.TestLaws.{agree}
+use Rattle.rules.specs.FormulaLaws.{test-same}
 
 module _ (s : Session) where
   -- an event that is destroyed, or has fired and is of type once, latch or output
@@ -39,13 +39,13 @@ module _ (s : Session) where
       record { templates = λ e. absurd (omega arith); tasks = λ e. absurd (omega arith); events = λ e. absurd (omega arith); blocks = λ e. x .1; lowest = omega arith; highest = omega arith }
 
   pub template-gone : (h : ℕ) → s Kind h ≡ template → test (templateDestroyed ≼ s TemplateState h) ≡ test (isGone s h)
-  template-gone h k = agree (templateDestroyed ≼ s TemplateState h) (isGone s h) (λ x. inl (k, x)) (λ g. gone-by h g .templates k)
+  template-gone h k = test-same (templateDestroyed ≼ s TemplateState h) (isGone s h) (λ x. inl (k, x)) (λ g. gone-by h g .templates k)
 
   pub task-gone : (h : ℕ) → s Kind h ≡ task → test (ended ≼ s TaskState h) ≡ test (isGone s h)
-  task-gone h k = agree (ended ≼ s TaskState h) (isGone s h) (λ x. inr (inl (k, x))) (λ g. gone-by h g .tasks k)
+  task-gone h k = test-same (ended ≼ s TaskState h) (isGone s h) (λ x. inr (inl (k, x))) (λ g. gone-by h g .tasks k)
 
   pub event-gone : (h : ℕ) → s Kind h ≡ event → test (isSpent h) ≡ test (isGone s h)
-  event-gone h k = agree (isSpent h) (isGone s h) (λ x. inr (inr (inl (k, x)))) (λ g. gone-by h g .events k)
+  event-gone h k = test-same (isSpent h) (isGone s h) (λ x. inr (inr (inl (k, x)))) (λ g. gone-by h g .events k)
 
   pub block-gone : (h : ℕ) → s Kind h ≡ block → test (doomed ≼ s BlockState h) ≡ test (isGone s h)
-  block-gone h k = agree (doomed ≼ s BlockState h) (isGone s h) (λ x. inr (inr (inr (k, x)))) (λ g. gone-by h g .blocks k)
+  block-gone h k = test-same (doomed ≼ s BlockState h) (isGone s h) (λ x. inr (inr (inr (k, x)))) (λ g. gone-by h g .blocks k)

@@ -6,7 +6,7 @@ use native.Mathlib.Omega.{arith}
 use borrow.Author.Tests.{not-true, not-false, ltb-true, ltb-false}
 use lib.Dec.{eqb, leb, ltb}
 use Rattle.rules.specs.Formula.{Formula, holds, test, Formula._≐_, Formula._≼_, Formula._and_, Formula._or_, Formula._then_, Formula.never}
-use Rattle.rules.specs.FormulaLaws.{Case, decide, passed, failed, passes, fails, test-and, test-or, test-then, Case.it-does, Case.it-does-not}
+use Rattle.rules.specs.FormulaLaws.{Case, decide, passed, failed, passes, fails, test-and, test-or, test-then, Case.it-does, Case.it-does-not, test-same}
 
 -- what an answer says, true or false
 pub yes : {r : Bool} (f : Formula) → r ≡ test f → r ≡ true → holds f
@@ -47,14 +47,6 @@ otherwise {r} f e = go (decide f)
     go (it-does h) = ap not (e ∙ passes f h) ∙ sym (fails (f then never) (λ n. n h))
     go (it-does-not n) = ap not (e ∙ fails f n) ∙ sym (passes (f then never) n)
 
--- formulas that say the same have the same test
-pub agree : (f g : Formula) → (holds f → holds g) → (holds g → holds f) → test f ≡ test g
-agree f g there back = go (decide f)
-  where
-    go : Case f → test f ≡ test g
-    go (it-does h) = passes f h ∙ sym (passes g (there h))
-    go (it-does-not n) = fails f n ∙ sym (fails g (λ h. n (back h)))
-
 -- a comparison of the code is the formula's test
 pub equals : (a b : ℕ) → eqb a b ≡ test (a ≐ b)
 unfolding test
@@ -73,4 +65,4 @@ less-than a b = go (ltb a b) refl
 
 -- room for n more, below a limit
 pub room-for : (a n top : ℕ) → n ≤ top → leb a (top - n) ≡ test (a + n ≼ top)
-room-for a n top l = at-most a (top - n) ∙ agree (a ≼ top - n) (a + n ≼ top) (λ x. omega arith) (λ x. omega arith)
+room-for a n top l = at-most a (top - n) ∙ test-same (a ≼ top - n) (a + n ≼ top) (λ x. omega arith) (λ x. omega arith)

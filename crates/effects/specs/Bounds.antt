@@ -5,11 +5,10 @@ use mathlib.Core.List.{List}
 use mathlib.Core.Logic.{_⊎_, inl, inr}
 use native.Mathlib.Omega.{arith}
 use native.Mathlib.Decide.{decLt}
-use borrow.Author.Tests.{le-ltb}
-use Rattle.session.specs.Table.{Session, read, size}
-use Rattle.session.specs.declared.Field.{Field}
+use Rattle.session.specs.Table.{Session, read}
 use Rattle.session.specs.declared.Field.the-variants.{Links, Kind, EventType, EventTally, LinkSource, LinkTarget, LinkSlot, LinkState}
 use Rattle.session.specs.Names.{mostObjects, task, event, latch, topTally, delivered}
+use Rattle.session.specs.TableLaws.{read-past}
 use Rattle.rules.specs.Formula.{holds, Formula._≐_, Formula._or_}
 use Rattle.rules.specs.FormulaLaws.{Case, decide, Case.it-does, Case.it-does-not}
 use Rattle.rules.specs.Reading.{made, isKind, isUserEvent, hasSlot, overflows}
@@ -23,11 +22,6 @@ use Rattle.effects.specs.Firing.{NoMoreLinks}
 use Rattle.effects.specs.Satisfying.{Firable, Countable, Triggerable, Satisfiable}
 use Rattle.effects.specs.Linking.{Dependable}
 use Rattle.effects.specs.Delivering.{Target, Deliverable}
-
--- past a field's places memory reads 0
-pub read-past : (ws : List ℕ) (f : Field) (i : ℕ) → size f ≤ i → read ws f i ≡ 0
-unfolding read
-read-past ws f i h = rw (le-ltb i (size f) h)
 
 -- the rules of a sound session that are used here
 pub record Ground (s : Session) : Type 0 where

@@ -1,7 +1,7 @@
 -- What a delivery asks of a session, and when it is dropped.
 use Prim.Native.Nat.{ℕ, _+_, _≤_, _<_}
-use mathlib.Core.Path.{_≡_, refl, _∙_}
-use mathlib.Core.Bool.{Bool, true, false}
+use mathlib.Core.Path.{_≡_, _∙_}
+use mathlib.Core.Bool.{false}
 use mathlib.Core.Logic.{inl, inr}
 use native.Mathlib.Omega.{arith}
 use lib.Dec.{eqb, leb}
@@ -9,7 +9,7 @@ use Rattle.session.specs.Table.{Session, put}
 use Rattle.session.specs.declared.Field.the-variants.{Links, Dropped, Kind, TaskState, EventState, EventType, EventTally, LinkSource, LinkTarget, LinkSlot, LinkState}
 use Rattle.session.specs.Names.{mostObjects, mostLinks, task, event, ended, fired, destroyedUnfired, delivered, once, idempotent, sticky, latch, topTally}
 use Rattle.rules.specs.Formula.{Formula, holds, test, Formula._≐_, Formula._≼_, Formula._and_, Formula._or_}
-use Rattle.rules.specs.FormulaLaws.{Case, decide, passes, fails, passed, failed, Case.it-does, Case.it-does-not}
+use Rattle.rules.specs.FormulaLaws.{Case, decide, fails, Case.it-does, Case.it-does-not, test-same}
 use Rattle.rules.specs.Reading.{isGone, isFiredSticky, overflows}
 use Rattle.rules.specs.Effects.{drops}
 use Rattle.laws.specs.Places.{put-there}
@@ -34,18 +34,10 @@ pub record Deliverable (s : Session) (l : ℕ) : Type 0 where
 abbrev pub leaves : ℕ → ℕ → Formula
 leaves n j = j ≐ 0 and n ≐ 0 or j ≐ 1 and n ≐ topTally
 
--- two formulas that say the same test the same
-pub same-test : (f g : Formula) → (holds f → holds g) → (holds g → holds f) → test f ≡ test g
-same-test f g a b = go (test g) refl
-  where
-    go : (c : Bool) → test g ≡ c → test f ≡ c
-    go true e = passes f (b (passed g e))
-    go false e = fails f (λ x. failed g e (a x))
-
 -- a decrement, an increment, and no slot of a latch
 pub leaves-down : (n j : ℕ) → j ≡ 0 → test (leaves n j) ≡ eqb n 0
 unfolding test
-leaves-down n j e = same-test (leaves n j) (n ≐ 0) there (λ x. inl (e, x))
+leaves-down n j e = test-same (leaves n j) (n ≐ 0) there (λ x. inl (e, x))
   where
     there : holds (leaves n j) → n ≡ 0
     there (inl x) = x .1
@@ -53,7 +45,7 @@ leaves-down n j e = same-test (leaves n j) (n ≐ 0) there (λ x. inl (e, x))
 
 pub leaves-up : (n j : ℕ) → j ≡ 1 → test (leaves n j) ≡ eqb n topTally
 unfolding test
-leaves-up n j e = same-test (leaves n j) (n ≐ topTally) there (λ x. inr (e, x))
+leaves-up n j e = test-same (leaves n j) (n ≐ topTally) there (λ x. inr (e, x))
   where
     there : holds (leaves n j) → n ≡ topTally
     there (inl x) = absurd (omega (arith, x .0))
@@ -69,7 +61,7 @@ leaves-never n j a b = fails (leaves n j) there
 -- when a delivery to a task is dropped
 pub task-drops : (s : Session) (d j : ℕ) → s Kind d ≡ task → test (drops s d j) ≡ leb ended (s TaskState d)
 unfolding drops test
-task-drops s d j k = same-test (isGone s d or isFiredSticky s d or overflows s d j) (ended ≼ s TaskState d) there (λ x. inl (inr (inl (k, x))))
+task-drops s d j k = test-same (isGone s d or isFiredSticky s d or overflows s d j) (ended ≼ s TaskState d) there (λ x. inl (inr (inl (k, x))))
   where
     there : holds (isGone s d or isFiredSticky s d or overflows s d j) → ended ≤ s TaskState d
     there (inl (inl x)) = absurd (omega (arith, x .0))
@@ -115,7 +107,7 @@ module _ (s : Session) (e j : ℕ) (k : s Kind e ≡ event) where
 
   pub latch-drops : s EventType e ≡ latch → s EventState e < destroyedUnfired → (s EventState e ≡ fired → ⊥) → test (drops s e j) ≡ test (leaves (s EventTally e) j)
   unfolding drops
-  latch-drops t d f = same-test (drops s e j) (leaves (s EventTally e) j) (λ x. go (why x)) (λ x. inr (inr (k, (t, x))))
+  latch-drops t d f = test-same (drops s e j) (leaves (s EventTally e) j) (λ x. go (why x)) (λ x. inr (inr (k, (t, x))))
     where
       go : Why → holds (leaves (s EventTally e) j)
       go (destroyed x) = absurd (omega arith)

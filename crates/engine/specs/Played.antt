@@ -18,7 +18,7 @@ use Rattle.rules.specs.Checks.{Check, refusal}
 use Rattle.rules.specs.Answer.{refusedOf, madeOf}
 use Rattle.rules.specs.Sound.{sound}
 use Rattle.rules.specs.Step.{Reply, rules, ruleOf, answer, after, outcome, step}
-use Rattle.sound.specs.Whole.{soundMemory}
+use Rattle.sound.specs.Whole.{soundMemory, memory-tested}
 use Rattle.laws.specs.Cases.{step-sound, step-unsound}
 
 -- An operation with these checks, effect and number made, run on memory: the answer says the first check that fails, or what
@@ -115,13 +115,8 @@ pub answered-sound : (before after : List ℕ) (op : Operation) (r : Answer) →
     → Answered before after op r
 answered-sound before after op r h p = rw (le-leb words (length before) h) p
 
--- what the sound check's answer says of memory of sufficient length
-memory-test : (ws : List ℕ) → words ≤ length ws → soundMemory ws ≡ test (sound (read ws))
-unfolding soundMemory
-memory-test ws h = rw (le-leb words (length ws) h)
-
 pub memory-sound : (ws : List ℕ) → words ≤ length ws → soundMemory ws ≡ true → holds (sound (read ws))
-memory-sound ws h e = passed (sound (read ws)) (sym (memory-test ws h) ∙ e)
+memory-sound ws h e = passed (sound (read ws)) (sym (memory-tested ws h) ∙ e)
 
 pub memory-unsound : (ws : List ℕ) → words ≤ length ws → soundMemory ws ≡ false → holds (sound (read ws)) → ⊥
-memory-unsound ws h e = failed (sound (read ws)) (sym (memory-test ws h) ∙ e)
+memory-unsound ws h e = failed (sound (read ws)) (sym (memory-tested ws h) ∙ e)

@@ -12,7 +12,7 @@ use Rattle.session.specs.Table.{Session, put, change}
 use Rattle.session.specs.declared.Field.the-variants.{Objects, Kind, TaskState, TaskCreator, TaskFinish, TaskOutput, EventState, EventType}
 use Rattle.session.specs.Names.{event, running, ended, eventOpen, fired, destroyedFired, destroyedUnfired}
 use Rattle.rules.specs.Formula.{holds, choose, Formula._≐_, Formula._≼_, Formula._and_}
-use Rattle.rules.specs.FormulaLaws.{Case, decide, choose-yes, choose-no, Case.it-does, Case.it-does-not}
+use Rattle.rules.specs.FormulaLaws.{Case, decide, choose-yes, choose-no, Case.it-does, Case.it-does-not, choose-case}
 use Rattle.rules.specs.Reading.{made, under, busy}
 use Rattle.rules.specs.Sound.{outputs}
 use Rattle.rules.specs.Effects.{finishes, letGo, buryDoomed, fire, fireOne, fireFinished, destroyEvent}
@@ -20,7 +20,7 @@ use Rattle.laws.specs.Places.{Places, places, put-there, Places.one, Places.two
 use Rattle.laws.specs.Under.{under-enough, or-map}
 use Rattle.holding.specs.Tidy.{Tidy}
 use Rattle.holding.specs.Finish.{Marks, waits, waits-of, one-fires, fires-nothing}
-use Rattle.holding.specs.Parts.{either-way, outputDestroyed, outputFired, ending}
+use Rattle.holding.specs.Parts.{outputDestroyed, outputFired, ending}
 
 -- a is h, or stands above it by the creators given
 abbrev pub Reached : (ℕ → ℕ) → ℕ → ℕ → Type 0
@@ -303,8 +303,8 @@ module _ (s : Session) (t : ℕ) where
 
     pub own-fired : (b : ℕ) → OnlyOwn s (outputFired r t b) t
     unfolding outputFired
-    own-fired b = either-way (λ q. OnlyOwn s q t) (r TaskOutput t ≐ 1 and r TaskFinish t ≐ 0) (fireOne r (t + 1) b) r (own-fireOne b) own
+    own-fired b = choose-case (λ q. OnlyOwn s q t) (r TaskOutput t ≐ 1 and r TaskFinish t ≐ 0) (fireOne r (t + 1) b) r (λ _. own-fireOne b) (λ _. own)
 
     pub own-destroyed : OnlyOwn s (outputDestroyed r t) t
     unfolding outputDestroyed
-    own-destroyed = either-way (λ q. OnlyOwn s q t) (r TaskOutput t ≐ 1) (destroyEvent r (t + 1)) r own-destroyEvent own
+    own-destroyed = choose-case (λ q. OnlyOwn s q t) (r TaskOutput t ≐ 1) (destroyEvent r (t + 1)) r (λ _. own-destroyEvent) (λ _. own)

@@ -6,20 +6,12 @@ use native.Mathlib.Omega.{arith}
 use Rattle.session.specs.Table.{Session, put, change}
 use Rattle.session.specs.declared.Field.the-variants.{Objects, Kind, TemplateState, TaskState, TaskFinish, TaskOutput, BlockState}
 use Rattle.session.specs.Names.{template, task, event, templateDestroyed, ended, taskDestroyed, doomed, blockDestroyed}
-use Rattle.rules.specs.Formula.{Formula, holds, choose, Formula._≐_, Formula._and_}
-use Rattle.rules.specs.FormulaLaws.{Case, decide, choose-yes, choose-no, Case.it-does, Case.it-does-not}
+use Rattle.rules.specs.Formula.{holds, choose, Formula._≐_, Formula._and_}
+use Rattle.rules.specs.FormulaLaws.{choose-yes, choose-no, choose-case}
 use Rattle.rules.specs.Reading.{made, isHeld}
 use Rattle.rules.specs.Sound.{sound, soundUsed, outputs, taskPart}
 use Rattle.rules.specs.Effects.{letGo, buryDoomed, release, fireOne, fireFinished, destroyEvent, destroyTask, destroyBlock, destroy, end}
 use Rattle.holding.specs.Tidy.{sounds, Tidy, tidy-state, tidy-letGo, tidy-fireOne, tidy-destroyEvent}
-
--- what holds of two sessions holds of a choice of them
-pub either-way : (P : Session → Type 0) (f : Formula) (a b : Session) → P a → P b → P (choose f a b)
-either-way P f a b x y = go (decide f)
-  where
-    go : Case f → P (choose f a b)
-    go (it-does h) = rw (choose-yes f a b h) x
-    go (it-does-not n) = rw (choose-no f a b n) y
 
 -- a task's output event is destroyed
 unfoldable pub outputDestroyed : Session → ℕ → Session
@@ -27,7 +19,7 @@ outputDestroyed s t = choose (s TaskOutput t ≐ 1) (destroyEvent s (t + 1)) s
 
 pub tidy-outputDestroyed : (s : Session) (t : ℕ) → Tidy s → Tidy (outputDestroyed s t)
 unfolding outputDestroyed
-tidy-outputDestroyed s t x = either-way Tidy (s TaskOutput t ≐ 1) (destroyEvent s (t + 1)) s (tidy-destroyEvent s x (t + 1)) x
+tidy-outputDestroyed s t x = choose-case Tidy (s TaskOutput t ≐ 1) (destroyEvent s (t + 1)) s (λ _. tidy-destroyEvent s x (t + 1)) (λ _. x)
 
 pub destroyTask-parts : (s : Session) (t : ℕ) → fireFinished (outputDestroyed (put s TaskState t taskDestroyed) t) ≡ destroyTask s t
 unfolding outputDestroyed destroyTask put
@@ -39,7 +31,7 @@ outputFired s t b = choose (s TaskOutput t ≐ 1 and s TaskFinish t ≐ 0) (fire
 
 pub tidy-outputFired : (s : Session) (t b : ℕ) → Tidy s → Tidy (outputFired s t b)
 unfolding outputFired
-tidy-outputFired s t b x = either-way Tidy (s TaskOutput t ≐ 1 and s TaskFinish t ≐ 0) (fireOne s (t + 1) b) s (tidy-fireOne s x (t + 1) b) x
+tidy-outputFired s t b x = choose-case Tidy (s TaskOutput t ≐ 1 and s TaskFinish t ≐ 0) (fireOne s (t + 1) b) s (λ _. tidy-fireOne s x (t + 1) b) (λ _. x)
 
 abbrev pub ending : Session → ℕ → Session
 ending s t = put (letGo s t (λ k. 0 ≐ 0)) TaskState t ended

@@ -9,15 +9,16 @@ use native.Mathlib.Decide.{decLt}
 use Rattle.session.specs.Table.{Session, put, change, read}
 use Rattle.session.specs.declared.Field.the-variants.{Objects, Links, Kind, TaskState, TaskCreator, EventState, EventPayload, BlockState, BlockHeld, LinkSource, LinkState}
 use Rattle.session.specs.Names.{task, event, granted, running, eventOpen, fired, destroyedUnfired, destroyedFired, linkOpen, ready, cut}
+use Rattle.session.specs.TableLaws.{read-past}
 use Rattle.rules.specs.Formula.{Formula, holds, choose, Formula._≐_, Formula._and_}
 use Rattle.rules.specs.FormulaLaws.{Case, decide, choose-yes, choose-no, Case.it-does, Case.it-does-not}
 use Rattle.rules.specs.Reading.{isHeld}
 use Rattle.rules.specs.Effects.{letGo, buryDoomed, fire, fireOne, destroyEvent}
 use Rattle.rules.specs.Sound.{sound, soundUsed, counts, objects, roots, creators, creator, links, isLink, slots, slot, states, blocks, unused, taskPart, eventPart, blockPart}
 use Rattle.laws.specs.Places.{Places, places, put-here, put-there, Places.one, Places.two}
-use Rattle.ancestors.specs.Above.{creators-fall}
+use Rattle.laws.specs.Under.{creators-fall}
 use Rattle.effects.specs.Firing.{NoMoreLinks}
-use Rattle.effects.specs.Bounds.{read-past, no-more-links}
+use Rattle.effects.specs.Bounds.{no-more-links}
 use Rattle.holding.specs.Letting.{Unheld, Unmarked, Doomed, Active}
 
 -- the counts, kinds, creators and links' sources: no operation here writes them

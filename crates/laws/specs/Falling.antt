@@ -15,6 +15,7 @@ use Rattle.rules.specs.Effects.{fire, fireOne, fireFinished, satisfySlot, satis
 use Rattle.rules.specs.Sound.{kept, isLink}
 use Rattle.rules.specs.Step.{after}
 use Rattle.rules.specs.Demand.{moves}
+use Rattle.rules.specs.FormulaLaws.{choose-case}
 use Rattle.laws.specs.Kept.{Rest, rest-of}
 use Rattle.laws.specs.Met.{met}
 use Rattle.laws.specs.Cases.{Accepted, Accepted.by-template, Accepted.by-task, Accepted.by-event, Accepted.by-block, Accepted.by-dependence, Accepted.by-satisfaction, Accepted.by-release, Accepted.by-destroy, Accepted.by-delivery, Accepted.by-grant, Accepted.by-start, Accepted.by-end}
@@ -26,7 +27,6 @@ use Rattle.laws.specs.Firing.{LinkAfter, link-after, LinkAfter.ready-now
 use Rattle.laws.specs.SatisfyEvent.{EventSatisfied, event-satisfied, EventSatisfied.latch-counts, EventSatisfied.latch-fires, EventSatisfied.nothing-more, EventSatisfied.event-fires}
 use Rattle.laws.specs.FillSlot.{StateAfter, state-after, StateAfter.other, StateAfter.waits, StateAfter.moved}
 use Rattle.laws.specs.Deliver.{Delivered, delivery, Delivered.drops-it, Delivered.fills-task, Delivered.fills-event}
-use Rattle.laws.specs.LastingEffects.{chosen}
 use Rattle.laws.specs.Left.{left, left-same, moved-left, handed-left}
 
 -- a firing makes open links ready
@@ -166,7 +166,7 @@ end-falls s t b m =
     own = fireOne (move r t ended) (t + 1) b
 
     first : left (choose plainOutput own (move r t ended)) ≡ left (move r t ended)
-    first = chosen (λ (q : Session). left q ≡ left (move r t ended)) plainOutput own (move r t ended) (λ h. fireOne-left (move r t ended) (t + 1) b) (λ n. refl)
+    first = choose-case (λ (q : Session). left q ≡ left (move r t ended)) plainOutput own (move r t ended) (λ h. fireOne-left (move r t ended) (t + 1) b) (λ n. refl)
 
 -- each accepted move takes exactly one step from what is left
 pub moves-fall : (s : Session) (o : Operation) → holds (kept s) → holds (moves o) → Accepted s o → left s ≡ 1 + left (after s o)

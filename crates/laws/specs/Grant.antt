@@ -177,7 +177,7 @@ module _ (s : Session) (t : ℕ) (c : met (grantChecks s t)) (r : Rest s) where
                 (
                   x .1 .0,
                   (
-                    move-taskPart s t granted kind before some live h (x .1 .1 .0),
+                    move-taskPart s t granted kind some (omega arith) h (x .1 .1 .0),
                     (
                       x .1 .1 .1 .0,
                       (
@@ -251,7 +251,7 @@ module _ (s : Session) (t : ℕ) (c : met (grantChecks s t)) (r : Rest s) where
       let ts = move s t granted TaskState in
       record {
         counts = r .counts;
-        objects = move-objects s t granted kind before some live (r .objects);
+        objects = move-objects s t granted kind some (omega arith) (r .objects);
         roots = marked-roots s m ts marking (r .roots);
         creators = move-creators s t granted kind before some live (r .creators);
         slots = marked-slots s m ts marking (r .slots);

@@ -1,25 +1,17 @@
 -- What no effect undoes. Each lemma adds one effect to what was done since the session s.
 use Prim.Native.Nat.{ℕ, _+_, _/_, _≤_, _<_}
-use mathlib.Core.Path.{_≡_, refl, sym, subst}
+use mathlib.Core.Path.{_≡_, refl}
 use mathlib.Core.Logic.{_⊎_, inl, inr}
 use native.Mathlib.Omega.{arith}
 use Rattle.session.specs.Table.{Session, put}
 use Rattle.session.specs.declared.Field.the-variants.{Objects, Links, Kind, TemplateState, TemplateCount, TaskState, TaskCreator, TaskSlots, TaskFinish, TaskOutput, EventState, EventType, EventPayload, EventTally, BlockState, BlockCreator, BlockHeld, SlotMark, SlotPayload, LinkSource, LinkTarget, LinkSlot, LinkState}
 use Rattle.rules.specs.Formula.{Formula, holds, not, choose, Formula._≐_, Formula._≼_, Formula._and_, Formula.each}
-use Rattle.rules.specs.FormulaLaws.{Case, decide, choose-yes, choose-no, Case.it-does, Case.it-does-not}
+use Rattle.rules.specs.FormulaLaws.{choose-case}
 use Rattle.session.specs.Names.{template, task, event, block, fresh, waiting, resolved, eventOpen, fired, destroyedUnfired, destroyedFired, doomed, blockDestroyed, linkOpen, ready, delivered, cut, latch, output, satisfied, held, evenTally}
 use Rattle.rules.specs.Reading.{at, isHeld}
 use Rattle.rules.specs.Effects.{new, newTemplate, newEvent, newTask, makeTask, newBlock, fire, fireOne, satisfySlot, satisfyEvent, newLink, buryDoomed, letGo, destroyEvent, finishes, fireFinished}
 use Rattle.laws.specs.SatisfyEvent.{EventSatisfied, event-satisfied, EventSatisfied.latch-counts, EventSatisfied.latch-fires, EventSatisfied.nothing-more, EventSatisfied.event-fires}
 use Rattle.laws.specs.Lasting.{HadFired, Lasts, Later, later-same, later-put, later-change}
-
--- what holds of both holds of the one that is chosen
-pub chosen {ℓ} : {A : Type ℓ} (P : A → Type 0) (f : Formula) (a b : A) → (holds f → P a) → ((holds f → ⊥) → P b) → P (choose f a b)
-chosen P f a b y n = go (decide f)
-  where
-    go : Case f → P (choose f a b)
-    go (it-does h) = subst P (sym (choose-yes f a b h)) (y h)
-    go (it-does-not h) = subst P (sym (choose-no f a b h)) (n h)
 
 -- a new object under a handle past the count
 pub later-new : {s r : Session} (h kind : ℕ) → Later s r → s Objects 0 < h → Later s (new r h kind)
@@ -63,7 +55,7 @@ later-makeTask s caller n finish out =
     let h = s Objects 0 + 1 in
     let t = newTask s caller h n finish out in
     let x = later-newTask s caller h n finish out (omega arith) in
-    chosen (Later s) (out ≐ 1) (newEvent t (h + 1) output) t (λ y. later-newEvent (h + 1) output x (omega arith)) (λ y. x)
+    choose-case (Later s) (out ≐ 1) (newEvent t (h + 1) output) t (λ y. later-newEvent (h + 1) output x (omega arith)) (λ y. x)
 
 -- the states of a link that a firing or a cut leaves alone
 no-open : (n : ℕ) → n ≡ linkOpen → (n ≡ delivered → ⊥) × (n ≡ cut → ⊥) × (n ≡ ready → ⊥)
@@ -102,17 +94,17 @@ later-fire {s} {r} fires payload x opens =
 
     states : (e : ℕ) → Lasts s EventState e (s EventState e) (choose (fires e) fired (r EventState e))
     states e =
-        chosen (λ (v : ℕ). Lasts s EventState e (s EventState e) v) (fires e) fired (r EventState e)
+        choose-case (λ (v : ℕ). Lasts s EventState e (s EventState e) v) (fires e) fired (r EventState e)
         (λ f l. let y = open-event e x l (opens e f) in (λ h. absurd (y .0 h), λ h. absurd (y .1 h))) (λ f. x .lasts EventState e)
 
     payloads : (e : ℕ) → Lasts s EventPayload e (s EventPayload e) (choose (fires e) (payload e) (r EventPayload e))
     payloads e =
-        chosen (λ (v : ℕ). Lasts s EventPayload e (s EventPayload e) v) (fires e) (payload e) (r EventPayload e)
+        choose-case (λ (v : ℕ). Lasts s EventPayload e (s EventPayload e) v) (fires e) (payload e) (r EventPayload e)
         (λ f l h. absurd (open-event e x l (opens e f) .0 h)) (λ f. x .lasts EventPayload e)
 
     links : (l : ℕ) → Lasts s LinkState l (s LinkState l) (choose (picks l) ready (r LinkState l))
     links l =
-        chosen (λ (v : ℕ). Lasts s LinkState l (s LinkState l) v) (picks l) ready (r LinkState l)
+        choose-case (λ (v : ℕ). Lasts s LinkState l (s LinkState l) v) (picks l) ready (r LinkState l)
         (λ f. open-link l ready x (f .0)) (λ f. x .lasts LinkState l)
 
 pub later-fireOne : {s r : Session} (e p : ℕ) → Later s r → r EventState e ≡ eventOpen → Later s (fireOne r e p)
@@ -139,7 +131,7 @@ later-destroyEvent {s} {r} e x n =
 
     state : Lasts s EventState e (s EventState e) (choose (r EventState e ≐ fired) destroyedFired destroyedUnfired)
     state =
-        chosen (λ (v : ℕ). Lasts s EventState e (s EventState e) v) (r EventState e ≐ fired) destroyedFired destroyedUnfired
+        choose-case (λ (v : ℕ). Lasts s EventState e (s EventState e) v) (r EventState e ≐ fired) destroyedFired destroyedUnfired
         (λ f l. (λ h. inr refl, λ h. let y = x .lasts EventState e l .1 h in absurd (two-states f y)))
         (λ f l. (λ h. absurd (had-not f (x .lasts EventState e l .0 h)), λ h. refl))
       where
@@ -148,7 +140,7 @@ later-destroyEvent {s} {r} e x n =
 
     links : (l : ℕ) → Lasts s LinkState l (s LinkState l) (choose (cuts l) cut (r LinkState l))
     links l =
-        chosen (λ (v : ℕ). Lasts s LinkState l (s LinkState l) v) (cuts l) cut (r LinkState l)
+        choose-case (λ (v : ℕ). Lasts s LinkState l (s LinkState l) v) (cuts l) cut (r LinkState l)
         (λ f. open-link l cut x (f .1)) (λ f. x .lasts LinkState l)
 
 -- holds end
@@ -161,7 +153,7 @@ later-buryDoomed {s} {r} x = later-change BlockState (λ b. choose (goes b) bloc
 
     states : (b : ℕ) → Lasts s BlockState b (s BlockState b) (choose (goes b) blockDestroyed (r BlockState b))
     states b =
-        chosen (λ (v : ℕ). Lasts s BlockState b (s BlockState b) v) (goes b) blockDestroyed (r BlockState b)
+        choose-case (λ (v : ℕ). Lasts s BlockState b (s BlockState b) v) (goes b) blockDestroyed (r BlockState b)
         (λ f l. let y = x .lasts BlockState b l in let e : r BlockState b ≡ doomed = f .0 in omega arith) (λ f. x .lasts BlockState b)
 
 pub later-letGo : {s r : Session} (t : ℕ) (which : ℕ → Formula) → Later s r → Later s (letGo r t which)
@@ -177,10 +169,10 @@ later-letGo {s} {r} t which x =
     made-by b = r BlockCreator b ≐ t and which b
 
     marks : (i : ℕ) → Lasts s SlotMark i (s SlotMark i) (choose (goes i) satisfied (r SlotMark i))
-    marks i = chosen (λ (v : ℕ). Lasts s SlotMark i (s SlotMark i) v) (goes i) satisfied (r SlotMark i) (λ f l. omega arith) (λ f. x .lasts SlotMark i)
+    marks i = choose-case (λ (v : ℕ). Lasts s SlotMark i (s SlotMark i) v) (goes i) satisfied (r SlotMark i) (λ f l. omega arith) (λ f. x .lasts SlotMark i)
 
     helds : (b : ℕ) → Lasts s BlockHeld b (s BlockHeld b) (choose (made-by b) 0 (r BlockHeld b))
-    helds b = chosen (λ (v : ℕ). Lasts s BlockHeld b (s BlockHeld b) v) (made-by b) 0 (r BlockHeld b) (λ f l. omega arith) (λ f. x .lasts BlockHeld b)
+    helds b = choose-case (λ (v : ℕ). Lasts s BlockHeld b (s BlockHeld b) v) (made-by b) 0 (r BlockHeld b) (λ f l. omega arith) (λ f. x .lasts BlockHeld b)
 
 -- an unsatisfied slot of a waiting task is satisfied
 pub later-satisfySlot : {s r : Session} (t j p : ℕ) → Later s r → r SlotMark (at t j) ≡ 0 → r TaskState t ≡ waiting → Later s (satisfySlot r t j p)
@@ -194,7 +186,7 @@ later-satisfySlot {s} {r} t j p x z w =
 
     state : Lasts s TaskState t (s TaskState t) (choose all resolved (r TaskState t))
     state =
-        chosen (λ (v : ℕ). Lasts s TaskState t (s TaskState t) v) all resolved (r TaskState t)
+        choose-case (λ (v : ℕ). Lasts s TaskState t (s TaskState t) v) all resolved (r TaskState t)
         (λ f l. let y = x .lasts TaskState t l in omega arith) (λ f. x .lasts TaskState t)
 
 -- an event is satisfied that is open, or has fired and is no latch

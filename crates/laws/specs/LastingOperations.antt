@@ -6,7 +6,7 @@ use native.Mathlib.Omega.{arith}
 use Rattle.session.specs.Table.{Session, put, change}
 use Rattle.session.specs.declared.Field.the-variants.{Dropped, Kind, TemplateState, TaskState, TaskFinish, TaskOutput, EventState, EventType, EventPayload, BlockState, SlotMode, SlotMark, SlotPayload, LinkSource, LinkTarget, LinkSlot, LinkState}
 use Rattle.rules.specs.Formula.{Formula, holds, choose, Formula._≐_, Formula._≼_, Formula._and_, Formula._or_}
-use Rattle.rules.specs.FormulaLaws.{Case, decide, Case.it-does, Case.it-does-not}
+use Rattle.rules.specs.FormulaLaws.{Case, decide, Case.it-does, Case.it-does-not, choose-case}
 use Rattle.session.specs.Names.{template, task, event, waiting, resolved, granted, running, ended, taskDestroyed, eventOpen, fired, doomed, blockDestroyed, ready, delivered, latch, held}
 use Rattle.rules.specs.Reading.{at, made, isKind, isUserEvent, isGone, hasSlot, isHeld}
 use Rattle.rules.specs.Checks.{dependenceChecks, satisfyChecks, destroyChecks, deliverChecks, grantChecks, startChecks, endChecks, makesLink}
@@ -16,7 +16,7 @@ use Rattle.laws.specs.Met.{met}
 use Rattle.laws.specs.SlotPlaces.{task-slot}
 use Rattle.laws.specs.Standing.{open-unless, open-latch, open-output, output-stands, waits, slot-of, unclaimed-mark, awaited-mark, block-stands}
 use Rattle.laws.specs.Lasting.{Lasts, Later, later-same, later-put, later-change}
-use Rattle.laws.specs.LastingEffects.{chosen, later-fireOne, later-fireFinished, later-destroyEvent, later-letGo, later-satisfySlot, later-satisfyEvent, later-newLink}
+use Rattle.laws.specs.LastingEffects.{later-fireOne, later-fireFinished, later-destroyEvent, later-letGo, later-satisfySlot, later-satisfyEvent, later-newLink}
 
 -- the rules of a sound session that are needed here
 pub record Ground (s : Session) : Type 0 where
@@ -53,7 +53,7 @@ takes s d j g m k there slot empty = (
 later-satisfy : {s r : Session} (d j p : ℕ) → Later s r → Takes r d j → Later s (satisfy r d j p)
 unfolding satisfy
 later-satisfy {s} {r} d j p x t =
-    chosen (Later s) (isKind r task d) (satisfySlot r d j p) (satisfyEvent r d j p)
+    choose-case (Later s) (isKind r task d) (satisfySlot r d j p) (satisfyEvent r d j p)
     (λ k. later-satisfySlot d j p x (t .0 k .0) (t .0 k .1)) (λ k. later-satisfyEvent d j p x (t .1 k .0) (t .1 k .1))
 
 -- operation 5
@@ -67,12 +67,12 @@ module _ (s : Session) (g : Ground s) (caller source d j mode : ℕ) (m : met (d
       (λ k. unclaimed-mark s d j (slot-of s d j (g .objects) (g .slots) named slot) (m .1 .1 .1 .1 .1 .1 .0 k))
 
   from : (r : Session) → Later s r → Takes r d j → Later s (choose (makesLink s source) (newLink r source d j) (satisfy r d j source))
-  from r x t = chosen (Later s) (makesLink s source) (newLink r source d j) (satisfy r d j source) (λ k. later-newLink source d j x) (λ k. later-satisfy d j source x t)
+  from r x t = choose-case (Later s) (makesLink s source) (newLink r source d j) (satisfy r d j source) (λ k. later-newLink source d j x) (λ k. later-satisfy d j source x t)
 
   pub later-depend : Later s (depend s source d j mode)
   unfolding depend claim put
   later-depend =
-      chosen (λ (r : Session). Later s (choose (makesLink s source) (newLink r source d j) (satisfy r d j source)))
+      choose-case (λ (r : Session). Later s (choose (makesLink s source) (newLink r source d j) (satisfy r d j source)))
       (isKind s task d) (put s SlotMode (at d j) mode) s
       (λ k. from (put s SlotMode (at d j) mode) (later-put SlotMode (at d j) mode (later-same s) (λ l. let z = m .1 .1 .1 .1 .1 .1 .0 k in absurd (omega arith))) fits)
       (λ k. from s (later-same s) fits)
@@ -105,7 +105,7 @@ module _ (s : Session) (g : Ground s) (caller h : ℕ) (m : met (destroyChecks s
       let r = put s TaskState h taskDestroyed in
       let x : Later s (put s TaskState h taskDestroyed) = later-put TaskState h taskDestroyed (later-same s) (λ l. omega arith) in
       later-fireFinished
-      (chosen (Later s) (s TaskOutput h ≐ 1) (destroyEvent r (h + 1)) r
+      (choose-case (Later s) (s TaskOutput h ≐ 1) (destroyEvent r (h + 1)) r
       (λ w. later-destroyEvent (h + 1) x (output-stands s h (g .outputs) named k w)) (λ w. x))
 
   later-destroyBlock : Later s (destroyBlock s caller h)
@@ -114,7 +114,7 @@ module _ (s : Session) (g : Ground s) (caller h : ℕ) (m : met (destroyChecks s
       let r = release s caller h in
       let low : s BlockState h ≤ 1 = block-stands s h (g .objects) named there in
       later-put BlockState h (choose (isHeld r h) doomed blockDestroyed) (later-release s caller h)
-      (chosen (λ (v : ℕ). Lasts s BlockState h (s BlockState h) v) (isHeld r h) doomed blockDestroyed (λ f l. omega arith) (λ f l. omega arith))
+      (choose-case (λ (v : ℕ). Lasts s BlockState h (s BlockState h) v) (isHeld r h) doomed blockDestroyed (λ f l. omega arith) (λ f l. omega arith))
 
   event-stands : s Kind h ≡ event → s EventState h ≡ 4 → ⊥
   event-stands k e = there (inr (inr (inl (k, inl (omega arith)))))
@@ -129,11 +129,11 @@ module _ (s : Session) (g : Ground s) (caller h : ℕ) (m : met (destroyChecks s
   pub later-destroy : Later s (destroy s caller h)
   unfolding destroy
   later-destroy =
-      chosen (Later s) (isKind s template h) (put s TemplateState h 2)
+      choose-case (Later s) (isKind s template h) (put s TemplateState h 2)
       (choose (isKind s task h) (destroyTask s h) (choose (isKind s event h) (destroyEvent s h) (destroyBlock s caller h)))
       (λ k. later-put TemplateState h 2 (later-same s) (λ l. template-stands k))
-      (λ n. chosen (Later s) (isKind s task h) (destroyTask s h) (choose (isKind s event h) (destroyEvent s h) (destroyBlock s caller h)) later-destroyTask
-      (λ o. chosen (Later s) (isKind s event h) (destroyEvent s h) (destroyBlock s caller h)
+      (λ n. choose-case (Later s) (isKind s task h) (destroyTask s h) (choose (isKind s event h) (destroyEvent s h) (destroyBlock s caller h)) later-destroyTask
+      (λ o. choose-case (Later s) (isKind s event h) (destroyEvent s h) (destroyBlock s caller h)
       (λ k. later-destroyEvent h (later-same s) (event-stands k)) (λ k. later-destroyBlock)))
 
 -- operation 9
@@ -164,7 +164,7 @@ module _ (s : Session) (g : Ground s) (l : ℕ) (m : met (deliverChecks s l)) wh
       let j = s LinkSlot l in
       let r = put s LinkState l delivered in
       let x : Later s (put s LinkState l delivered) = later-put LinkState l delivered (later-same s) (λ n. (λ e. refl, λ e. let q = is-ready in absurd (omega arith), λ e. inr refl)) in
-      chosen (Later s) (drops s d j) (put r Dropped 0 (s Dropped 0 + 1)) (satisfy r d j (s EventPayload (s LinkSource l)))
+      choose-case (Later s) (drops s d j) (put r Dropped 0 (s Dropped 0 + 1)) (satisfy r d j (s EventPayload (s LinkSource l)))
       (λ y. later-put Dropped 0 (s Dropped 0 + 1) x (omega arith))
       (λ n. later-satisfy d j (s EventPayload (s LinkSource l)) x (target-takes (λ y. n (inl y))))
 
@@ -179,7 +179,7 @@ later-grant s t m =
     picks i = (i / 16 ≐ t) and (1 ≼ s SlotPayload i)
 
     marks : (i : ℕ) → Lasts s SlotMark i (s SlotMark i) (choose (picks i) held (s SlotMark i))
-    marks i = chosen (λ (v : ℕ). Lasts s SlotMark i (s SlotMark i) v) (picks i) held (s SlotMark i) (λ f l. omega arith) (λ f l. l)
+    marks i = choose-case (λ (v : ℕ). Lasts s SlotMark i (s SlotMark i) v) (picks i) held (s SlotMark i) (λ f l. omega arith) (λ f l. l)
 
 pub later-start : (s : Session) (t : ℕ) → met (startChecks s t) → Later s (start s t)
 unfolding start
@@ -192,5 +192,5 @@ later-end s g t b m =
     let r = put (letGo s t (λ k. 0 ≐ 0)) TaskState t ended in
     let x : Later s (put (letGo s t (λ k. 0 ≐ 0)) TaskState t ended) = later-put TaskState t ended (later-letGo t (λ k. 0 ≐ 0) (later-same s)) (λ l. omega arith) in
     later-fireFinished
-    (chosen (Later s) (s TaskOutput t ≐ 1 and s TaskFinish t ≐ 0) (fireOne r (t + 1) b) r
+    (choose-case (Later s) (s TaskOutput t ≐ 1 and s TaskFinish t ≐ 0) (fireOne r (t + 1) b) r
     (λ y. later-fireOne (t + 1) b x (open-output s t (g .objects) (g .outputs) (m .0 .0) (m .1 .0 .0) (y .0) (omega arith))) (λ y. x))

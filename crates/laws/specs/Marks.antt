@@ -1,7 +1,7 @@
 -- Slots' marks and tasks' states may change, so long as no slot becomes satisfied or unsatisfied and no task stops being
 -- destroyed: what the rules say of slots then lasts. A grant and the letting go of holds are such changes.
-use Prim.Native.Nat.{ℕ, zero, suc, _+_, _≤_, _<_}
-use mathlib.Core.Path.{_≡_, refl}
+use Prim.Native.Nat.{ℕ, _+_, _≤_, _<_}
+use mathlib.Core.Path.{_≡_}
 use mathlib.Core.Logic.{_⊎_, inl, inr}
 use native.Mathlib.Omega.{arith}
 use Rattle.session.specs.Table.{Session, change}
@@ -32,9 +32,8 @@ payload-slot s o h j l m p = go (o h l j m)
     go (inl x) = (x .0, x .1 .0)
     go (inr x) = let z = x .1 .1 .1 in absurd (omega arith)
 
-positive : (n : ℕ) → (n ≡ 0 → ⊥) → 1 ≤ n
-positive zero f = absurd (f refl)
-positive (suc n) f = omega arith
+pub positive : (n : ℕ) → (n ≡ 0 → ⊥) → 1 ≤ n
+positive n f = omega arith
 
 -- new marks and states for the old ones
 abbrev pub marked : Session → (ℕ → ℕ) → (ℕ → ℕ) → Session

@@ -1,11 +1,12 @@
 -- An operation is accepted exactly if it meets each of its checks.
 use Prim.Native.Nat.{_≤_}
 use mathlib.Core.Path.{_≡_, refl, sym, _∙_}
-use mathlib.Core.Bool.{Bool, true, false}
+use mathlib.Core.Bool.{Bool, true}
 use mathlib.Core.List.{List, [], _∷_}
 use native.Mathlib.Omega.{arith}
 use lib.Dec.{T, leb, leb→le}
 use Rattle.session.specs.Table.{both}
+use Rattle.session.specs.TableLaws.{both-l, both-r}
 use Rattle.rules.specs.Formula.{holds}
 use Rattle.rules.specs.FormulaLaws.{Case, decide, choose-yes, choose-no, Case.it-does, Case.it-does-not}
 use Rattle.rules.specs.Checks.{Check, refusal}
@@ -19,14 +20,6 @@ met (c ∷ cs) = holds (c .rule) × met cs
 abbrev pub numbered : List Check → Bool
 numbered [] = true
 numbered (c ∷ cs) = both (leb 1 (c .number)) (numbered cs)
-
-both-l : (a b : Bool) → T (both a b) → T a
-both-l true b t = tt
-both-l false b t = t
-
-both-r : (a b : Bool) → T (both a b) → T b
-both-r true b t = t
-both-r false b t = absurd t
 
 -- where no check fails, each is met (the second argument is `tt` for a list that is written out)
 pub all-met : (cs : List Check) → T (numbered cs) → refusal cs ≡ 0 → met cs

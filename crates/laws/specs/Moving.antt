@@ -9,7 +9,7 @@ use Rattle.session.specs.declared.Field.the-variants.{Kind, TaskState, TaskCrea
 use Rattle.rules.specs.Formula.{Formula, holds, not, Formula._≐_, Formula._and_, Formula._or_}
 use Rattle.session.specs.Names.{running, granted, ended, task, taskDestroyed, fired, destroyedUnfired}
 use Rattle.rules.specs.Reading.{busy}
-use Rattle.rules.specs.Sound.{taskPart, objects, creators, creator, outputs, outputOf}
+use Rattle.rules.specs.Sound.{taskPart, objects, creators, creator, outputs, outputOf, unused}
 use Rattle.laws.specs.Places.{Places, places, put-here, put-there, Places.one, Places.two}
 
 -- task t in state v
@@ -31,6 +31,31 @@ after-move s t v i = go (places t i)
     go : Places t i → Moved s t v i
     go (one e) = state-moves e (put-here s TaskState t i v e)
     go (two n) = state-stays (put-there s TaskState t i v n)
+
+-- any state of a task will do for what the rules say of the object
+module _ (s : Session) (t v : ℕ) (kind : s Kind t ≡ task) (some : 1 ≤ v) (high : v ≤ taskDestroyed) where
+  pub move-taskPart : (i : ℕ) → holds (taskPart s i) → holds (taskPart (move s t v) i)
+  unfolding put
+  move-taskPart i x = go (after-move s t v i) x
+    where
+      go : Moved s t v i → holds (taskPart s i) → holds (taskPart (move s t v) i)
+      go (state-stays e) x = rw e x
+      go (state-moves p e) (inl x) = rw e (inl (x .0, (some, (high, x .1 .1 .1))))
+      go (state-moves p e) (inr x) = absurd (x .0 (rw (← p) kind))
+
+  pub move-objects : holds (objects s) → holds (objects (move s t v))
+  unfolding put
+  move-objects h = (h .0, λ i l. let x = h .1 i l in (x .0, (x .1 .0, (move-taskPart i (x .1 .1 .0), x .1 .1 .1))))
+
+  pub move-unused : holds (unused s) → holds (unused (move s t v))
+  unfolding put
+  move-unused h = (h .0, (λ i l g. let x = h .1 .0 i l g in (x .0, (x .1 .0, (move-taskPart i (x .1 .1 .0), x .1 .1 .1))), h .1 .1))
+
+-- where no task comes to live, none becomes busy
+pub move-busy : (s : Session) (t v : ℕ) → ((i : ℕ) → move s t v TaskState i ≤ running → s TaskState i ≤ running)
+    → (a : ℕ) → holds (busy (move s t v) a) → holds (busy s a)
+unfolding put
+move-busy s t v was-live a x = (x .0, x .1, ((x .2 .0 .0, was-live (x .0) (x .2 .0 .1)), x .2 .1))
 
 module _ (s : Session) (t v : ℕ) (kind : s Kind t ≡ task) (was : s TaskState t ≤ granted) (some : 1 ≤ v) (is : v ≤ running) where
   was-at : (i : ℕ) → t ≡ i → s TaskState i ≤ granted
@@ -80,8 +105,7 @@ module _ (s : Session) (t v : ℕ) (kind : s Kind t ≡ task) (was : s TaskState
 
   -- no descendant goes or comes
   was-busy : (a : ℕ) → holds (busy (move s t v) a) → holds (busy s a)
-  unfolding put
-  was-busy a x = (x .0, x .1, ((x .2 .0 .0, was-live (x .0) (x .2 .0 .1)), x .2 .1))
+  was-busy = move-busy s t v was-live
 
   still-busy : (a : ℕ) → holds (busy s a) → holds (busy (move s t v) a)
   unfolding put
@@ -109,16 +133,3 @@ module _ (s : Session) (t v : ℕ) (kind : s Kind t ≡ task) (was : s TaskState
   pub move-outputs : holds (outputs s) → holds (outputs (move s t v))
   unfolding put
   move-outputs h i l = (λ x. move-outputOf i (h i l .0 x), h i l .1)
-
-  pub move-taskPart : (i : ℕ) → holds (taskPart s i) → holds (taskPart (move s t v) i)
-  unfolding put
-  move-taskPart i x = go (after-move s t v i) x
-    where
-      go : Moved s t v i → holds (taskPart s i) → holds (taskPart (move s t v) i)
-      go (state-stays e) x = rw e x
-      go (state-moves p e) (inl x) = rw e (inl (x .0, (some, (omega arith, x .1 .1 .1))))
-      go (state-moves p e) (inr x) = absurd (x .0 (rw (← p) kind))
-
-  pub move-objects : holds (objects s) → holds (objects (move s t v))
-  unfolding put
-  move-objects h = (h .0, λ i l. let x = h .1 i l in (x .0, (x .1 .0, (move-taskPart i (x .1 .1 .0), x .1 .1 .1))))

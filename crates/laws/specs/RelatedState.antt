@@ -14,7 +14,7 @@ use Rattle.rules.specs.Book.{Book, enter, Column}
 use Rattle.laws.specs.Met.{met}
 use Rattle.laws.specs.Kept.{Rest, rest-of}
 use Rattle.laws.specs.SlotPlaces.{few-slots}
-use Rattle.laws.specs.Marks.{no-payload}
+use Rattle.laws.specs.Marks.{no-payload, positive}
 use Rattle.laws.specs.LettingGo.{MarkAfter, mark-after, BlockAfter, block-after, MarkAfter.mark-stays, MarkAfter.mark-falls, BlockAfter.block-stays, BlockAfter.block-falls}
 use Rattle.laws.specs.Relation.{Related, Marks, SlotsAgree}
 use Rattle.laws.specs.Unmade.{unmade-at}
@@ -78,9 +78,6 @@ related-marks s b mark f r =
       struck = r .struck;
       unmade = r .unmade;
     }
-
-positive : (n : ℕ) → (n ≡ 0 → ⊥) → 1 ≤ n
-positive n f = omega arith
 
 module _ (s : Session) (t : ℕ) (x : Rest s) where
   grant-marks : (h j : ℕ) → h < s Objects 0 + 1 → j < s TaskSlots h

@@ -9,10 +9,10 @@ use Rattle.session.specs.declared.Field.the-variants.{Objects, Kind, TaskState,
 use Rattle.rules.specs.Formula.{Formula, holds, not, Formula._≐_, Formula._≼_, Formula._and_, Formula._or_, Formula._then_, Formula.each}
 use Rattle.session.specs.Names.{task, block, waiting, resolved, granted, running, ended, taskDestroyed, held}
 use Rattle.rules.specs.Reading.{made, isKind, at, busy}
-use Rattle.rules.specs.Sound.{taskPart, state, full, objects, creators, creator, slots, states, blocks, unused}
+use Rattle.rules.specs.Sound.{state, full, objects, creators, creator, slots, states, blocks, unused}
 use Rattle.laws.specs.Kept.{Rest}
 use Rattle.laws.specs.Marks.{Marking, marked-slots}
-use Rattle.laws.specs.Moving.{move, Moved, after-move, Moved.state-stays, Moved.state-moves}
+use Rattle.laws.specs.Moving.{move, Moved, after-move, move-objects, move-unused, move-busy, Moved.state-stays, Moved.state-moves}
 
 -- what is known of task t, which is to have the state v
 pub record Retires (s : Session) (t v : ℕ) : Type 0 where
@@ -94,8 +94,7 @@ module _ (s : Session) (t v : ℕ) (x : Retires s t v) where
 
   -- so no task becomes busy
   pub retire-busy : (a : ℕ) → holds (busy (move s t v) a) → holds (busy s a)
-  unfolding put
-  retire-busy a b = (b .0, b .1, ((b .2 .0 .0, was-live (b .0) (b .2 .0 .1)), b .2 .1))
+  retire-busy = move-busy s t v was-live
 
   retire-creators : holds (creators s) → holds (creators (move s t v))
   unfolding put
@@ -150,29 +149,15 @@ module _ (s : Session) (t v : ℕ) (x : Retires s t v) where
       go e (state-stays q) r = q ∙ r
       go e (state-moves p q) r = absurd (x .no-block b l k e (sym p))
 
-  retire-taskPart : (i : ℕ) → holds (taskPart s i) → holds (taskPart (move s t v) i)
-  unfolding put
-  retire-taskPart i c = go (after-move s t v i) c
-    where
-      go : Moved s t v i → holds (taskPart s i) → holds (taskPart (move s t v) i)
-      go (state-stays e) c = rw e c
-      go (state-moves p e) (inl c) = let lo = x .low in let hi = x .high in rw e (inl (c .0, (omega arith, (hi, c .1 .1 .1))))
-      go (state-moves p e) (inr c) = absurd (c .0 (ap (s Kind) (sym p) ∙ x .kind))
-
-  retire-objects : holds (objects s) → holds (objects (move s t v))
-  unfolding put
-  retire-objects h = (h .0, λ i l. let c = h .1 i l in (c .0, (c .1 .0, (retire-taskPart i (c .1 .1 .0), c .1 .1 .1))))
-
-  retire-unused : holds (unused s) → holds (unused (move s t v))
-  unfolding put
-  retire-unused h = (h .0, (λ i l g. let c = h .1 .0 i l g in (c .0, (c .1 .0, (retire-taskPart i (c .1 .1 .0), c .1 .1 .1))), h .1 .1))
+  some : 1 ≤ v
+  some = omega (arith, x .low)
 
   -- the rules but that of the outputs
   pub retire-rest : Rest s → Rest (move s t v)
   unfolding put
   retire-rest r = record {
     counts = r .counts;
-    objects = retire-objects (r .objects);
+    objects = move-objects s t v (x .kind) some (x .high) (r .objects);
     roots = r .roots;
     creators = retire-creators (r .creators);
     slots = retire-slots (r .slots);
@@ -183,6 +168,6 @@ module _ (s : Session) (t v : ℕ) (x : Retires s t v) where
     compatible = r .compatible;
     latches = r .latches;
     dropped = r .dropped;
-    unused = retire-unused (r .unused);
+    unused = move-unused s t v (x .kind) some (x .high) (r .unused);
     settled = r .settled;
   }

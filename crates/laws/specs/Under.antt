@@ -8,7 +8,7 @@ use Rattle.session.specs.Table.{Session}
 use Rattle.session.specs.declared.Field.the-variants.{Objects, TaskCreator}
 use Rattle.rules.specs.Formula.{holds, Formula._≐_, Formula._≼_, Formula._and_, Formula._or_}
 use Rattle.rules.specs.Reading.{under}
-use Rattle.rules.specs.Sound.{taskPart, creator}
+use Rattle.rules.specs.Sound.{objects, roots, creators, taskPart, creator}
 use Rattle.laws.specs.Kept.{Rest}
 
 pub or-map : {A B C : Type 0} → (B → C) → A ⊎ B → A ⊎ C
@@ -33,16 +33,23 @@ under-same c d n agree stays (suc k) h a l x =
     (y .0, or-map (under-same c d n agree stays k (d h) a (stays h l)) (y .1))
 
 -- a creator is lower than what it made
-pub creator-falls : (s : Session) → Rest s → (h : ℕ) → h ≤ s Objects 0 → 1 ≤ s TaskCreator h → s TaskCreator h < h
-creator-falls s r h l m = go (r .objects .1 h (omega arith) .1 .1 .0)
+abbrev pub Falls : Session → Type 0
+Falls s = (h : ℕ) → h ≤ s Objects 0 → 1 ≤ s TaskCreator h → s TaskCreator h < h
+
+-- what the rules that come first say of creators
+pub creators-fall : (s : Session) → holds (objects s) → holds (roots s) → holds (creators s) → Falls s
+creators-fall s o r cs h l m = go (o .1 h (omega arith) .1 .1 .0)
   where
     lower : holds (creator s h) → s TaskCreator h < h
-    lower (inl e) = let z : s TaskCreator h ≡ 0 = rw e (r .roots .1 .1 .1 .0) in absurd (omega arith)
+    lower (inl e) = let z : s TaskCreator h ≡ 0 = rw e (r .1 .1 .1 .0) in absurd (omega arith)
     lower (inr x) = x .1 .0
 
     go : holds (taskPart s h) → s TaskCreator h < h
-    go (inl x) = lower (r .creators h (omega arith) (x .0))
+    go (inl x) = lower (cs h (omega arith) (x .0))
     go (inr x) = let z : s TaskCreator h ≡ 0 = x .1 .1 .0 in absurd (omega arith)
+
+pub creator-falls : (s : Session) → Rest s → Falls s
+creator-falls s r = creators-fall s (r .objects) (r .roots) (r .creators)
 
 pub creator-made : (s : Session) → Rest s → (h : ℕ) → h ≤ s Objects 0 → s TaskCreator h ≤ s Objects 0
 creator-made s r h l = go (decLt 0 (s TaskCreator h))

@@ -71,6 +71,18 @@ readFirst limit bytes at =
 unfoldable pub readAt : ℕ → List ℕ → ℕ → Reading
 readAt limit bytes at = readFirst limit (drop at bytes) at
 
+-- "3. A number is cut short by the sheet's end. 4. A number is not in its shortest form or exceeds 4,294,967,295."
+unfoldable pub refusalOf : Reading → ℕ
+refusalOf (Value v next) = 0
+refusalOf (Bad next) = 4
+refusalOf CutShort = 3
+
+-- The value that was read, 0 if none was
+unfoldable pub valueOf : Reading → ℕ
+valueOf (Value v next) = v
+valueOf (Bad next) = 0
+valueOf CutShort = 0
+
 -- Memory with these bytes from a place on: what stands before and after them stays.
 unfoldable pub splice : List ℕ → ℕ → List ℕ → List ℕ
 splice out at bytes = take at out ++ bytes ++ drop (at + length bytes) out

@@ -4,14 +4,14 @@ use mathlib.Core.List.{List}
 use mathlib.Core.Path.{_≡_, ap, sym, _∙_}
 use native.Mathlib.Omega.{arith}
 use lib.Dec.{lit<}
-use Rattle.number.specs.Number.{limit32, readAt}
+use Rattle.number.specs.Number.{limit32, readAt, refusalOf, valueOf}
 use Rattle.number.specs.declared.Reading.the-variants.{Value, Bad, CutShort}
 use Rattle.rules.specs.declared.Arity.the-variants.{Fields, Unknown}
 use Rattle.rules.specs.Arity.{isCode, arityOf}
 use Rattle.rules.specs.Checks.{refusal}
 use Rattle.rules.specs.Formula.{holds, Formula.each}
 use Rattle.rules.specs.FormulaLaws.{Case, decide, choose-yes, choose-no, Case.it-does, Case.it-does-not}
-use Rattle.record.specs.Reading.{refusalOf, valueOf, behind, place, nth, clears, fieldCount, refusedRecord, answered, operationAt, fieldsAt, codeAt, firstField, countAt, recordChecks, recordAt}
+use Rattle.record.specs.Reading.{behind, place, nth, clears, fieldCount, refusedRecord, answered, operationAt, fieldsAt, codeAt, firstField, countAt, recordChecks, recordAt}
 use Rattle.record.specs.Refusals.{is-value, refusal-met, refusal-fails, refusal-none, refusal-empty, number-cut, number-bad, number-value, number-none, answered-none, answered-refused, answered-number}
 use Rattle.record.specs.Fields.{AllRead}
 

@@ -3,12 +3,12 @@ use Prim.Native.Nat.{ℕ}
 use mathlib.Core.List.{List, [], _∷_}
 use mathlib.Core.Path.{_≡_, refl}
 use lib.ListN.{replicate}
-use Rattle.number.specs.Number.{encode, encodeIn, readAt, readFirst, judged, shortest, lastByte, value, more}
+use Rattle.number.specs.Number.{encode, encodeIn, readAt, readFirst, judged, shortest, lastByte, value, more, refusalOf, valueOf}
 use Rattle.rules.specs.declared.Operation.{Operation}
 use Rattle.rules.specs.Formula.{test}
 use Rattle.rules.specs.Checks.{refusal}
 use Rattle.record.specs.declared.Place.the-variants.{Behind, Refused}
-use Rattle.record.specs.Reading.{refusalOf, valueOf, behind, place, five, answered, placed, recordAt}
+use Rattle.record.specs.Reading.{behind, place, five, answered, placed, recordAt}
 use Rattle.record.specs.Writing.{fieldBytes, recordBytes, writtenAt}
 use Rattle.record.specs.Sheet.{headAt, recordsBytes, sheetOf, recordsFrom, contents}
 

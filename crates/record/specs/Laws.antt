@@ -7,7 +7,7 @@ use mathlib.Core.Path.{_≡_, refl, ap, sym, _∙_}
 use native.Mathlib.Omega.{arith}
 use lib.Dec.{lit<, lit≤}
 use lib.ListN.{length, drop, length-append, take-append-drop}
-use Rattle.number.specs.Number.{AreBytes, limit32, encode, splice}
+use Rattle.number.specs.Number.{AreBytes, limit32, encode, splice, valueOf}
 use Rattle.number.specs.Encode.{encode-one}
 use Rattle.number.specs.Splice.{splice-from, splice-is}
 use Rattle.number.specs.Laws.{read-back, rewritten, value-next, length-some, stands-behind}
@@ -17,7 +17,7 @@ use Rattle.rules.specs.Checks.{refusal}
 use Rattle.rules.specs.Formula.{holds, test, Formula.each, Formula._≐_, Formula._≼_}
 use Rattle.rules.specs.FormulaLaws.{passed, choose-yes}
 use Rattle.rules.specs.Step.{arg}
-use Rattle.record.specs.Reading.{valueOf, place, nth, fieldCount, five, operation, operationAt, codeAt, firstField, countAt, recordChecks, recordAt}
+use Rattle.record.specs.Reading.{place, nth, fieldCount, five, operation, operationAt, codeAt, firstField, countAt, recordChecks, recordAt}
 use Rattle.record.specs.Refusals.{refusal-none, refusal-most, answered-number}
 use Rattle.record.specs.Fields.{five-same, five-at, fieldBytes-same, fieldBytes-length, AllRead, fields-back, fields-onward, fields-again}
 use Rattle.record.specs.Cases.{record-known, fields-read, accepted}

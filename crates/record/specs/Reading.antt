@@ -4,7 +4,7 @@ use Prim.Native.Nat.{ℕ, zero, suc}
 use mathlib.Core.List.{List, [], _∷_}
 use lib.Dec.{ltb}
 use lib.ListN.{getD}
-use Rattle.number.specs.Number.{limit32, readAt}
+use Rattle.number.specs.Number.{limit32, readAt, refusalOf, valueOf}
 use Rattle.number.specs.declared.Reading.{Reading}
 use Rattle.number.specs.declared.Reading.the-variants.{Value, Bad, CutShort}
 use Rattle.session.specs.Table.{pick}
@@ -15,18 +15,6 @@ use Rattle.rules.specs.Formula.{Formula, not, choose, Formula._≐_, Formula.ea
 use Rattle.record.specs.declared.Record.{Record}
 use Rattle.record.specs.declared.Place.{Place}
 use Rattle.record.specs.declared.Place.the-variants.{Behind, Refused}
-
--- "3. A number is cut short by the sheet's end. 4. A number is not in its shortest form or exceeds 4,294,967,295."
-unfoldable pub refusalOf : Reading → ℕ
-refusalOf (Value v next) = 0
-refusalOf (Bad next) = 4
-refusalOf CutShort = 3
-
--- the value that was read, 0 if none was
-unfoldable pub valueOf : Reading → ℕ
-valueOf (Value v next) = v
-valueOf (Bad next) = 0
-valueOf CutShort = 0
 
 -- the place behind a number that was read at a place; one that is cut short has none, and the place stays
 unfoldable pub behind : ℕ → Reading → ℕ

@@ -2,13 +2,13 @@
 use Prim.Native.Nat.{ℕ, zero, suc}
 use mathlib.Core.List.{List, [], _∷_, _++_}
 use lib.ListN.{length}
-use Rattle.number.specs.Number.{limit32, encode, readAt}
+use Rattle.number.specs.Number.{limit32, encode, readAt, valueOf}
 use Rattle.rules.specs.declared.Operation.{Operation}
 use Rattle.rules.specs.Checks.{Check, check, refusal}
 use Rattle.rules.specs.Formula.{choose, Formula._≐_, Formula._≼_}
 use Rattle.record.specs.declared.Place.{Place}
 use Rattle.record.specs.declared.Record.{Record}
-use Rattle.record.specs.Reading.{valueOf, behind, numberChecks, placed, recordAt}
+use Rattle.record.specs.Reading.{behind, numberChecks, placed, recordAt}
 use Rattle.record.specs.Writing.{recordBytes}
 
 -- "5. The sheet's first number is not 1."

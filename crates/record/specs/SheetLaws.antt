@@ -6,7 +6,7 @@ use mathlib.Core.Path.{_≡_, refl, ap, sym, _∙_}
 use native.Mathlib.Omega.{arith}
 use lib.Dec.{lit<, lit≤}
 use lib.ListN.{length, drop, length-append, length-drop, drop-of-length-le}
-use Rattle.number.specs.Number.{AreBytes, limit32, encode, readAt}
+use Rattle.number.specs.Number.{AreBytes, limit32, encode, readAt, valueOf}
 use Rattle.number.specs.Laws.{read-back, rewritten, stands-behind}
 use Rattle.number.specs.declared.Reading.the-variants.{Value, Bad, CutShort}
 use Rattle.rules.specs.declared.Operation.{Operation}
@@ -14,7 +14,7 @@ use Rattle.rules.specs.Formula.{holds, Formula._≐_, Formula._≼_}
 use Rattle.rules.specs.FormulaLaws.{Case, decide, choose-yes, choose-no, Case.it-does, Case.it-does-not}
 use Rattle.record.specs.declared.Record.{Record}
 use Rattle.record.specs.declared.Place.the-variants.{Behind, Refused}
-use Rattle.record.specs.Reading.{valueOf, behind, recordAt}
+use Rattle.record.specs.Reading.{behind, recordAt}
 use Rattle.record.specs.Refusals.{refusal-met, refusal-fails, refusal-none, refusal-empty, number-cut, number-bad, number-value, number-none, placed-none, placed-refused}
 use Rattle.record.specs.Laws.{record-some, record-back, record-forward, record-again}
 use Rattle.record.specs.Writing.{recordBytes, isRecordable, own}

@@ -3,9 +3,7 @@ use Prim.Native.Nat.{ℕ, _+_}
 use mathlib.Core.Path.{refl}
 use mathlib.Core.Bool.{false}
 use mathlib.Core.List.{List, [], _∷_, _++_}
-use Rattle.number.specs.Number.{limit32, more, value, lastByte, shortest, judged, readFirst, readAt}
-use Rattle.number.specs.declared.Reading.{Reading}
-use Rattle.number.specs.declared.Reading.the-variants.{Value, Bad, CutShort}
+use Rattle.number.specs.Number.{limit32, more, value, lastByte, shortest, judged, readFirst, readAt, refusalOf, valueOf}
 use Rattle.session.specs.Table.{Session, put, change, at}
 use Rattle.session.specs.Fresh.{freshSession}
 use Rattle.session.specs.declared.Field.the-variants.{Objects, Kind, EventState, EventType, SlotMode, SlotMark, LinkState}
@@ -93,17 +91,6 @@ crowded =
 -- P5 handle 512 is made, the next gives 20.
 p5 : Edge
 p5 = record { from = crowded; calls = done 3 (2 ∷ 1 ∷ []) 512 ∷ refused 3 (2 ∷ 1 ∷ []) 20 ∷ []; shows = λ s. s Objects 0 ≐ 512 }
-
--- the refusal that a number meets, and its value
-refusalOf : Reading → ℕ
-refusalOf (Value v next) = 0
-refusalOf (Bad next) = 4
-refusalOf CutShort = 3
-
-valueOf : Reading → ℕ
-valueOf (Value v next) = v
-valueOf (Bad next) = 0
-valueOf CutShort = 0
 
 -- P6 bytes 128 0: refusal 4; 128 1 is 128.
 p6 : Formula

@@ -162,3 +162,19 @@ decide f = go (told f)
     go : Told (test f) (holds f) → Case f
     go (it-holds e x) = it-does x
     go (it-fails e n) = it-does-not n
+
+-- two formulas that say the same have the same test
+pub test-same : (f g : Formula) → (holds f → holds g) → (holds g → holds f) → test f ≡ test g
+test-same f g to from = go (decide f)
+  where
+    go : Case f → test f ≡ test g
+    go (it-does x) = passes f x ∙ sym (passes g (to x))
+    go (it-does-not n) = fails f n ∙ sym (fails g (λ y. n (from y)))
+
+-- what holds of both holds of the one that is chosen
+pub choose-case {ℓ} : {A : Type ℓ} (P : A → Type 0) (f : Formula) (a b : A) → (holds f → P a) → ((holds f → ⊥) → P b) → P (choose f a b)
+choose-case P f a b y n = go (decide f)
+  where
+    go : Case f → P (choose f a b)
+    go (it-does h) = subst P (sym (choose-yes f a b h)) (y h)
+    go (it-does-not h) = subst P (sym (choose-no f a b h)) (n h)

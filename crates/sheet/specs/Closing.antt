@@ -5,13 +5,12 @@ use mathlib.Core.Path.{_≡_, ap, sym, _∙_}
 use mathlib.Core.Logic.{⊎-elim}
 use native.Mathlib.Omega.{arith}
 use lib.ListN.{length}
-use borrow.Author.Tests.{le-ltb}
 use Rattle.number.specs.Number.{splice}
 use Rattle.lines.specs.Line.{line}
 use Rattle.lines.specs.LineLaws.{digits-bound, line-length}
-use Rattle.session.specs.Table.{read, words, size}
-use Rattle.session.specs.declared.Field.{Field}
+use Rattle.session.specs.Table.{read, words}
 use Rattle.session.specs.declared.Field.the-variants.{Objects, Links, Kind, LinkState}
+use Rattle.session.specs.TableLaws.{read-past}
 use Rattle.rules.specs.Formula.{Formula, holds, choose, count, Formula._≼_, Formula._and_}
 use Rattle.rules.specs.FormulaLaws.{choose-yes, choose-no}
 use Rattle.rules.specs.Reading.{isLive, isUndelivered, liveTasks, undeliveredLinks, droppedCount}
@@ -51,11 +50,6 @@ line-closing a b c ha hb hc =
     let z = digits-bound 19 c (omega arith) in
     let n = line-length a b c in
     omega arith
-
--- nothing is read past a field's places
-read-past : (ws : List ℕ) (f : Field) (i : ℕ) → size f ≤ i → read ws f i ≡ 0
-unfolding read
-read-past ws f i h = rw (le-ltb i (size f) h)
 
 -- places where the formula fails are not counted
 count-past : (d m : ℕ) (f : ℕ → Formula) → ((i : ℕ) → m ≤ i → holds (f i) → ⊥) → count (d + m) f ≡ count m f

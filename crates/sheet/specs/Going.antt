@@ -5,17 +5,15 @@ use mathlib.Core.Path.{_≡_, refl, ap, sym, _∙_}
 use mathlib.Core.Bool.{Bool, true}
 use native.Mathlib.Omega.{arith}
 use lib.ListN.{length, drop}
-use borrow.Author.Tests.{le-leb}
 use Rattle.session.specs.Table.{Session, Wrote, read, words}
 use Rattle.rules.specs.declared.Answer.{Answer}
 use Rattle.rules.specs.declared.Answer.the-variants.{Accepted, Refused}
 use Rattle.rules.specs.Answer.{refusedOf, madeOf}
-use Rattle.rules.specs.Formula.{holds, test}
+use Rattle.rules.specs.Formula.{holds}
 use Rattle.rules.specs.Sound.{sound, kept}
 use Rattle.rules.specs.Step.{step}
 use Rattle.record.specs.Reading.{recordAt}
 use Rattle.record.specs.Laws.{record-forward}
-use Rattle.sound.specs.Whole.{soundMemory}
 use Rattle.laws.specs.StepKeeps.{step-keeps}
 use Rattle.sheet.specs.declared.Ended.{Ended}
 use Rattle.sheet.specs.declared.Went.{Went}
@@ -25,11 +23,6 @@ use Rattle.sheet.specs.RunLaws.{run-end, run-full, run-unsound, run-refu
 
 abbrev pub linesOf : List ℕ → ℕ → Lines
 linesOf bytes used = record { bytes = bytes; used = used }
-
--- what the sound check's answer says of memory of sufficient length
-pub memory-tested : (ws : List ℕ) → words ≤ length ws → soundMemory ws ≡ test (sound (read ws))
-unfolding soundMemory
-memory-tested ws h = rw (le-leb words (length ws) h)
 
 -- the numbers of an answer, and its line
 pub reply-accepted : (n m : ℕ) {r : Answer} → madeOf r ≡ m → r ≡ Accepted n → n ≡ m

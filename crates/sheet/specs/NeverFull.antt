@@ -27,7 +27,7 @@ use Rattle.record.specs.Cases.{accepted}
 use Rattle.record.specs.Laws.{record-forward, record-refusals}
 use Rattle.record.specs.Sheet.{headRefusal, headChecks, firstRecord}
 use Rattle.sheet.specs.Run.{Lines, hasRoom, withLine, Run, ended, endedBy, runFrom, runSheet}
-use Rattle.sheet.specs.RunLaws.{run-end, run-unsound, run-refused, run-on, sheet-unsound, sheet-refused, sheet-runs}
+use Rattle.sheet.specs.RunLaws.{run-end, run-unsound, run-refused, run-on, sheet-unsound, sheet-refused, sheet-runs, below}
 use Rattle.sheet.specs.Replies.{reply-small, reply-nothing}
 use Rattle.sheet.specs.Whole.{head-small}
 
@@ -183,10 +183,7 @@ run-closable sheet (suc n) at k s l g = ends (decide (length sheet ≼ at)) (run
     ends : Case (length sheet ≼ at) → Again sheet n → Closable (runFrom sheet (suc n) at k s l)
     ends (it-does h) again =
         rw (run-end sheet at k s l (suc n) h) (record { not-full = λ e. omega arith; room = omega (arith, g .bytes) })
-    ends (it-does-not f) again = sounds (below f) (omega (arith, g .bytes)) (decide (sound s)) again
-      where
-        below : (length sheet ≤ at → ⊥) → at < length sheet
-        below f = omega arith
+    ends (it-does-not f) again = sounds (below sheet at f) (omega (arith, g .bytes)) (decide (sound s)) again
 
 -- it is there before the first record
 first-spare : (sheet : List ℕ) (l : Lines) → length sheet < 100000 → 2 * l .used + 11 * length sheet + 128 ≤ 2 * length (l .bytes) → headRefusal sheet ≡ 0

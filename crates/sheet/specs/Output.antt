@@ -18,6 +18,7 @@ use Rattle.rules.specs.Reading.{isLive, isUndelivered, liveTasks, undeliveredLi
 use Rattle.rules.specs.Sound.{sound, soundUsed}
 use Rattle.record.specs.Sheet.{headRefusal, firstRecord}
 use Rattle.laws.specs.Counting.{count-most}
+use Rattle.laws.specs.StepKeeps.{kept-sound}
 use Rattle.laws.specs.Runs.{always-kept}
 use Rattle.sheet.specs.declared.Ended.{Ended}
 use Rattle.sheet.specs.Run.{Lines, hasRoom, Run, endedBy, runFrom, runSheet, lastLine}
@@ -25,7 +26,6 @@ use Rattle.sheet.specs.RunLaws.{sheet-unsound, sheet-refused, sheet-runs
 use Rattle.sheet.specs.Going.{linesOf, Ends}
 use Rattle.sheet.specs.Whole.{Ran, head-small}
 use Rattle.sheet.specs.Closing.{closed, closed-room, line-closing}
-use Rattle.sheet.specs.Settled.{kept-sound}
 use Rattle.sheet.specs.NeverFull.{never-full}
 use Rattle.sheet.specs.Printed.{Printed, prints, after, printSheet, output}
 use Rattle.sheet.specs.PrintLaws.{print-none, print-head, print-records}

@@ -18,7 +18,7 @@ use Rattle.record.specs.Reading.{recordAt}
 use Rattle.record.specs.Laws.{record-forward, record-refusals}
 use Rattle.laws.specs.StepKeeps.{step-keeps}
 use Rattle.sheet.specs.Run.{Lines, hasRoom, withLine, Run, ended, endedBy, runFrom}
-use Rattle.sheet.specs.RunLaws.{run-end, run-full, run-unsound, run-refused, run-on}
+use Rattle.sheet.specs.RunLaws.{run-end, run-full, run-unsound, run-refused, run-on, below}
 use Rattle.sheet.specs.Replies.{reply-small}
 use Rattle.sheet.specs.NeverFull.{record-not-full}
 use Rattle.sheet.specs.Printed.{Printed, prints, after, printFrom}
@@ -158,7 +158,4 @@ part sheet (suc n) at k s l enough count small = ends (decide (length sheet ≼ 
 
     ends : Case (length sheet ≼ at) → Again sheet n → Part sheet at k s l (runFrom sheet (suc n) at k s l)
     ends (it-does h) again = rw (run-end sheet at k s l (suc n) h) (part-end sheet at k s l h)
-    ends (it-does-not f) again = rooms (below f) (decide (hasRoom l)) again
-      where
-        below : (length sheet ≤ at → ⊥) → at < length sheet
-        below f = omega arith
+    ends (it-does-not f) again = rooms (below sheet at f) (decide (hasRoom l)) again

@@ -14,6 +14,7 @@ use Rattle.record.specs.Reading.{recordAt}
 use Rattle.record.specs.Laws.{record-forward}
 use Rattle.record.specs.Sheet.{headRefusal, firstRecord}
 use Rattle.sheet.specs.Printed.{prints, after, printFrom, printSheet}
+use Rattle.sheet.specs.RunLaws.{below}
 
 module _ (sheet : List ℕ) (at k : ℕ) (s : Session) where
   -- the sheet's end
@@ -73,10 +74,7 @@ prints-enough sheet (suc n) (suc m) at k s hn hm = ends (decide (length sheet �
 
     ends : Case (length sheet ≼ at) → Again sheet n m → Same sheet (suc n) (suc m) at k s
     ends (it-does h) again = print-end sheet at k s (suc n) h ∙ sym (print-end sheet at k s (suc m) h)
-    ends (it-does-not unmet) again = sounds (below unmet) (decide (sound s)) again
-      where
-        below : (length sheet ≤ at → ⊥) → at < length sheet
-        below f = omega arith
+    ends (it-does-not unmet) again = sounds (below sheet at unmet) (decide (sound s)) again
 
 -- the cases of a whole sheet
 module _ (sheet : List ℕ) (s : Session) where

@@ -13,10 +13,10 @@ use Rattle.rules.specs.Formula.{holds}
 use Rattle.rules.specs.Sound.{kept}
 use Rattle.record.specs.declared.Place.the-variants.{Behind, Refused}
 use Rattle.record.specs.Sheet.{headAt}
+use Rattle.laws.specs.StepKeeps.{kept-sound}
 use Rattle.sheet.specs.declared.Ended.{Ended}
 use Rattle.sheet.specs.Going.{linesOf, Ends, runOf}
 use Rattle.sheet.specs.Whole.{head-first, head-number}
-use Rattle.sheet.specs.Settled.{kept-sound}
 use Rattle.sheet.specs.Printed.{Printed, prints, after, printFrom, printSheet}
 use Rattle.sheet.specs.PrintLaws.{print-end, print-head, print-records}
 use Rattle.sheet.specs.Parts.{text, Part, part, rest-full, rest-none}

@@ -2,11 +2,12 @@
 use Prim.Native.Nat.{ℕ, zero, suc, _+_, _≤_, _<_}
 use mathlib.Core.List.{List, [], _∷_}
 use mathlib.Core.Path.{_≡_, ap, _∙_}
-use mathlib.Core.Bool.{Bool, true, false}
+use mathlib.Core.Bool.{Bool, true}
 use native.Mathlib.Omega.{arith}
 use lib.Dec.{T, leb, leb→le}
 use lib.ListN.{getD}
 use Rattle.session.specs.Table.{Session, both}
+use Rattle.session.specs.TableLaws.{both-l, both-r}
 use Rattle.session.specs.declared.Field.the-variants.{Links}
 use Rattle.rules.specs.declared.Operation.{Operation}
 use Rattle.rules.specs.Formula.{holds, choose}
@@ -22,14 +23,6 @@ use Rattle.laws.specs.Cases.{Accepted, Called, called, step-sound, Called.refus
 abbrev upTo21 : List Check → Bool
 upTo21 [] = true
 upTo21 (c ∷ cs) = both (leb (c .number) 21) (upTo21 cs)
-
-both-l : (a b : Bool) → T (both a b) → T a
-both-l true b t = tt
-both-l false b t = t
-
-both-r : (a b : Bool) → T (both a b) → T b
-both-r true b t = t
-both-r false b t = absurd t
 
 each-21 : (cs : List Check) → T (upTo21 cs) → UpTo 21 cs
 each-21 [] t = tt

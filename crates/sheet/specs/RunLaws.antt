@@ -54,6 +54,10 @@ module _ (sheet : List ℕ) (at k : ℕ) (s : Session) (l : Lines) where
             choose-no (length sheet ≼ at) _ _ begun ∙ choose-no (not (hasRoom l)) _ _ (λ f. f room) ∙ choose-no (not (sound s)) _ _ (λ f. f is)
             ∙ choose-no (not (recordAt sheet at .refused ≐ 0)) _ _ (λ f. f z)
 
+-- before the sheet's end
+pub below : (sheet : List ℕ) (at : ℕ) → (length sheet ≤ at → ⊥) → at < length sheet
+below sheet at f = omega arith
+
 -- as many steps as another
 abbrev Same : List ℕ → ℕ → ℕ → ℕ → ℕ → Session → Lines → Type 0
 Same sheet n m at k s l = runFrom sheet n at k s l ≡ runFrom sheet m at k s l
@@ -86,10 +90,7 @@ steps-enough sheet (suc n) (suc m) at k s l hn hm = ends (decide (length sheet �
 
     ends : Case (length sheet ≼ at) → Again sheet n m → Same sheet (suc n) (suc m) at k s l
     ends (it-does h) again = run-end sheet at k s l (suc n) h ∙ sym (run-end sheet at k s l (suc m) h)
-    ends (it-does-not unmet) again = rooms (below unmet) (decide (hasRoom l)) again
-      where
-        below : (length sheet ≤ at → ⊥) → at < length sheet
-        below f = omega arith
+    ends (it-does-not unmet) again = rooms (below sheet at unmet) (decide (hasRoom l)) again
 
 -- the cases of a whole sheet
 module _ (sheet : List ℕ) (s : Session) (l : Lines) where

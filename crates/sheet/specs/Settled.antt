@@ -9,11 +9,11 @@ use Rattle.session.specs.Table.{Session}
 use Rattle.session.specs.declared.Field.the-variants.{Objects, Links, TaskSlots, SlotMark, LinkTarget, LinkSlot, LinkState}
 use Rattle.session.specs.Names.{delivered}
 use Rattle.rules.specs.Formula.{Formula, holds, test, not, Formula._≐_, Formula._≼_, Formula._and_, Formula._then_, Formula.each}
-use Rattle.rules.specs.FormulaLaws.{Case, decide, passes, fails, test-and, test-then, Case.it-does, Case.it-does-not}
+use Rattle.rules.specs.FormulaLaws.{Case, decide, passes, fails, test-and, test-then, Case.it-does, Case.it-does-not, test-same}
 use Rattle.rules.specs.Reading.{at}
 use Rattle.rules.specs.Sound.{sound, soundUsed, kept, settled, isLink}
 use Rattle.laws.specs.SlotPlaces.{few-slots}
-use Rattle.sound.specs.Bools.{test-eq, test-same}
+use Rattle.sound.specs.Bools.{test-eq}
 
 module _ (s : Session) where
   -- a link that is not delivered leads to no slot of a task, or to one that is not satisfied
@@ -82,10 +82,6 @@ module _ (s : Session) where
             go : Case (s SlotMark (at (s LinkTarget l) (s LinkSlot l)) ≐ 0) → s SlotMark (at (s LinkTarget l) (s LinkSlot l)) ≡ 0
             go (it-does e) = e
             go (it-does-not n) = absurd (f (s LinkTarget l) (target-made l h) (s LinkSlot l) (x .1) (omega arith) (l, h, ((refl, refl), x .0)))
-
-pub kept-sound : (s : Session) → holds (kept s) → holds (sound s)
-unfolding kept
-kept-sound s k = k .0
 
 -- a sound session is kept exactly if it is settled
 pub kept-test : (s : Session) → holds (sound s) → test (kept s) ≡ test (settled s)

@@ -14,13 +14,13 @@ use Rattle.rules.specs.Sound.{kept}
 use Rattle.record.specs.Reading.{recordAt}
 use Rattle.record.specs.Sheet.{Contents, stopped, followed, headRefusal, firstRecord, recordsFrom, contents}
 use Rattle.laws.specs.Fresh.{fresh-kept}
-use Rattle.laws.specs.StepKeeps.{step-keeps}
+use Rattle.laws.specs.StepKeeps.{step-keeps, kept-sound}
 use Rattle.laws.specs.Demand.{demand-3}
 use Rattle.sheet.specs.Run.{Lines, runSheet}
-use Rattle.sheet.specs.Settled.{kept-sound}
 use Rattle.sheet.specs.Printed.{Printed, printFrom, printSheet}
 use Rattle.sheet.specs.PrintLaws.{print-end, print-refused, print-on, print-head, print-records}
 use Rattle.sheet.specs.Output.{whole-printed}
+use Rattle.sheet.specs.RunLaws.{below}
 
 module _ (sheet : List ℕ) (n at : ℕ) where
   -- at the sheet's end
@@ -68,10 +68,7 @@ printed-said sheet (suc n) at k s c = ends (decide (length sheet ≼ at)) (print
 
     ends : Case (length sheet ≼ at) → Again sheet n → printFrom sheet (suc n) at k s .session ≡ run s (recordsFrom sheet (suc n) at .operations)
     ends (it-does h) again = ap leaves (print-end sheet at k s (suc n) h) ∙ sym (ap (through s) (said-end sheet n at h))
-    ends (it-does-not f) again = reads (below f) (decide (recordAt sheet at .refused ≐ 0)) again
-      where
-        below : (length sheet ≤ at → ⊥) → at < length sheet
-        below f = omega arith
+    ends (it-does-not f) again = reads (below sheet at f) (decide (recordAt sheet at .refused ≐ 0)) again
 
 -- What the sheet program leaves is the session after the list of the sheet's operations, and demand 3 holds of them.
 pub printed-contents : (sheet : List ℕ)

@@ -8,16 +8,6 @@ ghost use Rattle.session.specs.Table.{read, words};
 ghost use Rattle.rules.specs.Formula.{test, count};
 ghost use Rattle.rules.specs.Reading.{isLive, isUndelivered, liveTasks, undeliveredLinks};
 
-fn is_live(s: &[u64], h: u64) -> bool
-    requires { ⌜ (words ≤ length (now s)) × (h ≤ 512) ⌝ }
-    ensures { λ r. ⌜ r ≡ test (isLive (read (now (s .entry))) h) ⌝ }
-{
-    if session::get(s, Field::Kind, h as usize) != names::TASK {
-        return false;
-    }
-    session::get(s, Field::TaskState, h as usize) <= names::RUNNING
-}
-
 fn is_undelivered(s: &[u64], l: u64) -> bool
     requires { ⌜ (words ≤ length (now s)) × (l ≤ 2048) ⌝ }
     ensures { λ r. ⌜ r ≡ test (isUndelivered (read (now (s .entry))) l) ⌝ }
@@ -36,7 +26,7 @@ fn count_live(s: &[u64], last: u64) -> u64
     let mut found: u64 = 0;
     let mut h: u64 = 0;
     while h <= last {
-        if is_live(s, h) {
+        if ancestors::is_live(s, h) {
             found += 1;
         }
         h += 1;

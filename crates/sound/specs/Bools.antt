@@ -1,10 +1,9 @@
 -- The test of a formula by the connectives on Booleans, as code computes them.
 use Prim.Native.Nat.{ℕ, suc}
-use mathlib.Core.Path.{_≡_, refl, sym, _∙_}
+use mathlib.Core.Path.{_≡_, refl}
 use mathlib.Core.Bool.{Bool, true, false, _&&_, _||_, not}
 use lib.Dec.{eqb, leb, ltb}
 use Rattle.session.specs.Table.{pick}
-use Rattle.rules.specs.FormulaLaws.{Case, decide, passes, fails, Case.it-does, Case.it-does-not}
 use Rattle.rules.specs.Formula.{Formula, holds, test, choose, Formula._≐_, Formula._≼_, Formula._and_, Formula._or_, Formula._then_, Formula.never}
 
 pub test-eq : (a b : ℕ) → test (a ≐ b) ≡ eqb a b
@@ -15,13 +14,13 @@ pub test-le : (a b : ℕ) → test (a ≼ b) ≡ leb a b
 unfolding test
 test-le a b = refl
 
+pub elim-both : (a b : Bool) → elim a as (λ _. Bool) [ true ↦ b | false ↦ false ] ≡ (a && b)
+elim-both true b = refl
+elim-both false b = refl
+
 pub test-both : (f g : Formula) → test (f and g) ≡ (test f && test g)
 unfolding test
-test-both f g = go (test f) (test g)
-  where
-    go : (a b : Bool) → elim a as (λ _. Bool) [ true ↦ b | false ↦ false ] ≡ (a && b)
-    go true b = refl
-    go false b = refl
+test-both f g = elim-both (test f) (test g)
 
 pub test-either : (f g : Formula) → test (f or g) ≡ (test f || test g)
 unfolding test
@@ -50,14 +49,6 @@ test-not f = go (test f)
 pub test-lt : (a b : ℕ) → test (suc a ≼ b) ≡ ltb a b
 unfolding test
 test-lt a b = refl
-
--- two formulas that say the same have the same test
-pub test-same : (f g : Formula) → (holds f → holds g) → (holds g → holds f) → test f ≡ test g
-test-same f g to from = go (decide f)
-  where
-    go : Case f → test f ≡ test g
-    go (it-does x) = passes f x ∙ sym (passes g (to x))
-    go (it-does-not n) = fails f n ∙ sym (fails g (λ y. n (from y)))
 
 -- a mark that is 1 where a formula holds, else 0
 pub chosen : (x : ℕ) (f : Formula) → x ≡ choose f 1 0 → eqb x 1 ≡ test f

@@ -14,12 +14,12 @@ use Rattle.session.specs.declared.Field.the-variants.{SlotMode, SlotMark, SlotP
 use Rattle.session.specs.Names.{held}
 use Rattle.rules.specs.Formula.{Formula, holds, test, Formula._≐_, Formula._and_, Formula._or_, Formula.each, Formula.some}
 use Rattle.rules.specs.Formula as formula
-use Rattle.rules.specs.FormulaLaws.{passes, fails}
+use Rattle.rules.specs.FormulaLaws.{passes, fails, test-same}
 use Rattle.rules.specs.Reading.{conflict}
 use Rattle.rules.specs.Conflicts.{conflict-modes, Writes}
 use Rattle.laws.specs.Places.{Places, places, Places.one, Places.two}
 use Rattle.sound.specs.Bodies.{clash}
-use Rattle.sound.specs.Bools.{test-same, test-both, test-either, test-not}
+use Rattle.sound.specs.Bools.{test-both, test-either, test-not}
 use Rattle.sound.specs.Held.{some-skip, some-keep}
 
 -- the place of block b and mode c + 1

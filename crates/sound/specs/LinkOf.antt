@@ -13,14 +13,14 @@ use Rattle.session.specs.Table.{Session}
 use Rattle.session.specs.declared.Field.the-variants.{Objects, Links, Kind, TaskState, TaskSlots, EventPayload, SlotMode, SlotMark, SlotPayload, LinkSource, LinkTarget, LinkSlot, LinkState}
 use Rattle.session.specs.Names.{task, delivered, held, taskDestroyed}
 use Rattle.rules.specs.Formula.{Formula, holds, test, choose, not, _iff_, Formula._≐_, Formula._≼_, Formula._and_, Formula._or_, Formula._then_, Formula.each, Formula.some}
-use Rattle.rules.specs.FormulaLaws.{passes, passed, failed, Case, decide, choose-yes, choose-no, Case.it-does, Case.it-does-not}
+use Rattle.rules.specs.FormulaLaws.{passes, passed, failed, Case, decide, choose-yes, choose-no, Case.it-does, Case.it-does-not, test-same}
 use Rattle.rules.specs.Reading.{at, isKind}
 use Rattle.rules.specs.Sound.{isPayload, objects, links, oneLink, slot, slots, claimed, unclaimed, leadsTo, noLink, noSlot, isLink}
 use Rattle.laws.specs.SlotPlaces.{same-task, same-slot, low-slot}
 use Rattle.laws.specs.Places.{Places, places, Places.one, Places.two}
 use Rattle.sound.specs.Bodies.{linkAt}
 use Rattle.sound.specs.Row.{Row, row-set, row-same}
-use Rattle.sound.specs.Bools.{test-both, test-either, test-same}
+use Rattle.sound.specs.Bools.{test-both, test-either}
 
 -- what is known of links before the slots are looked at
 pub record Linked (s : Session) : Type 0 where

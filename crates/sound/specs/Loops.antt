@@ -1,9 +1,10 @@
 -- What a loop over places makes of `each` and `count`: nothing seen yet, and one place more.
 use Prim.Native.Nat.{ℕ, _+_}
 use mathlib.Core.Path.{_≡_, refl}
-use mathlib.Core.Bool.{Bool, true, false, _&&_}
+use mathlib.Core.Bool.{true, _&&_}
 use native.Mathlib.Numerals.{add-one}
 use Rattle.rules.specs.Formula.{Formula, test, count, choose, Formula.each}
+use Rattle.sound.specs.Bools.{elim-both}
 
 pub each-none : (f : ℕ → Formula) → test (each 0 f) ≡ true
 unfolding test
@@ -11,11 +12,7 @@ each-none f = refl
 
 pub each-more : (n : ℕ) (f : ℕ → Formula) → test (each (n + 1) f) ≡ (test (f n) && test (each n f))
 unfolding test
-each-more n f = rw add-one (go (test (f n)) (test (each n f)))
-  where
-    go : (a b : Bool) → elim a as (λ _. Bool) [ true ↦ b | false ↦ false ] ≡ (a && b)
-    go true b = refl
-    go false b = refl
+each-more n f = rw add-one (elim-both (test (f n)) (test (each n f)))
 
 pub count-none : (f : ℕ → Formula) → count 0 f ≡ 0
 unfolding count

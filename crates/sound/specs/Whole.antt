@@ -7,18 +7,24 @@ use mathlib.Core.Bool.{Bool, false}
 use native.Mathlib.Omega.{arith}
 use lib.ListN.{length}
 use lib.Dec.{leb}
+use borrow.Author.Tests.{le-leb}
 use Rattle.session.specs.Table.{Session, read, words, pick}
 use Rattle.session.specs.declared.Field.the-variants.{Objects, Links, Kind, SlotMode, SlotMark, SlotPayload}
 use Rattle.session.specs.Names.{held, task}
 use Rattle.rules.specs.Formula.{Formula, holds, test, Formula._and_, Formula._or_}
 use Rattle.rules.specs.Reading.{at}
 use Rattle.rules.specs.Sound.{isPayload, sound, soundUsed, counts, objects, roots, creators, outputs, slots, slot, unclaimed, claimed, links, oneLink, states, blocks, compatible, latches, dropped, unused}
+use Rattle.rules.specs.FormulaLaws.{test-same}
 use Rattle.laws.specs.SlotPlaces.{place-split, place-low, place-owner}
-use Rattle.sound.specs.Bools.{test-same}
 
 -- the answer on lent memory: memory that is too short is not sound
 unfoldable pub soundMemory : List ℕ → Bool
 soundMemory ws = pick (leb words (length ws)) (test (sound (read ws))) false
+
+-- what it says of memory of sufficient length
+pub memory-tested : (ws : List ℕ) → words ≤ length ws → soundMemory ws ≡ test (sound (read ws))
+unfolding soundMemory
+memory-tested ws h = rw (le-leb words (length ws) h)
 
 -- the numbers of objects and links, as they were read
 pub record Counted (s : Session) (n m : ℕ) : Type 0 where

@@ -7,8 +7,8 @@ use lib.ListN.{length, length-append}
 use Rattle.number.specs.Number.{limit32, encode}
 use Rattle.number.specs.Encode.{Groups, groups, encode-one, encode-several}
 use Rattle.number.specs.Laws.{length-some}
-use Rattle.rules.specs.Formula.{Formula, holds, choose, Formula._≐_, Formula._≼_}
-use Rattle.rules.specs.FormulaLaws.{Case, decide, choose-yes, choose-no, Case.it-does, Case.it-does-not}
+use Rattle.rules.specs.Formula.{Formula._≐_, Formula._≼_}
+use Rattle.rules.specs.FormulaLaws.{Case, decide, Case.it-does, Case.it-does-not, choose-case}
 use Rattle.text.specs.Text.{kindOf, longer, afterWord, afterComment, after, isWord, ended, numbersFrom, numbers, badLine, encodeAll, sheetOf, answer}
 use Rattle.text.specs.TextLaws.{encodeAll-none, encodeAll-one, encodeAll-append, short-answer, bad-answer, good-answer}
 use Rattle.text.specs.declared.Kind.{Kind}
@@ -50,19 +50,12 @@ Small Hash = Unit {0}
 Small (Digit d) = d < 10
 Small Other = Unit {0}
 
-choose-case : {A : Type 0} (P : A → Type 0) (f : Formula) (a b : A) → (holds f → P a) → P b → P (choose f a b)
-choose-case P f a b left right = go (decide f)
-  where
-    go : Case f → P (choose f a b)
-    go (it-does h) = rw (choose-yes f a b h) (left h)
-    go (it-does-not n) = rw (choose-no f a b n) right
-
 small : (b : ℕ) → Small (kindOf b)
 unfolding kindOf
 small b =
-    choose-case Small _ Newline _ (λ h. tt)
-    (choose-case Small _ Blank _ (λ h. tt)
-    (choose-case Small _ Hash _ (λ h. tt) (choose-case Small _ (Digit (b - 48)) Other (λ h. omega (arith, h .1)) tt)))
+    choose-case Small _ Newline _ (λ _. tt)
+    (λ _. choose-case Small _ Blank _ (λ _. tt)
+    (λ _. choose-case Small _ Hash _ (λ _. tt) (λ _. choose-case Small _ (Digit (b - 48)) Other (λ h. omega (arith, h .1)) (λ _. tt))))
 
 -- With each byte what ended, and the credit that is left, are covered by the credit before and one byte more.
 abbrev Covered : Mode → Mode → Type 0

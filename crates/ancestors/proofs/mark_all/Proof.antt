@@ -5,7 +5,8 @@ use lib.ListN.{length}
 use denote.Ref.{now}
 use Rattle.session.specs.Table.{read, words}
 use Rattle.session.specs.declared.Field.the-variants.{Objects}
-use Rattle.ancestors.specs.Above.{Falls, Shows, busyBelow, shows-none, shows-all}
+use Rattle.laws.specs.Under.{Falls}
+use Rattle.ancestors.specs.Above.{Shows, busyBelow, shows-none, shows-all}
 use Rattle.ancestors.proofs.mark_all.Statement.{statement}
 use Rattle.ancestors.proofs.mark_all.Tie as tie
 

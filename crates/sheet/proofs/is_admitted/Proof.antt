@@ -5,7 +5,7 @@ use Rattle.rules.specs.FormulaLaws.{passes}
 use Rattle.laws.specs.StepKeeps.{kept-sound}
 use Rattle.session.specs.Table.{read}
 use Rattle.rules.specs.Sound.{sound}
-use Rattle.sheet.specs.Going.{memory-tested}
+use Rattle.sound.specs.Whole.{memory-tested}
 use Rattle.sheet.proofs.is_admitted.Statement.{statement}
 use Rattle.sheet.proofs.is_admitted.Tie as tie
 

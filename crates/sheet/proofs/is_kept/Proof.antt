@@ -5,7 +5,7 @@ use borrow.Author.Tests.{not-true, not-false}
 use Rattle.session.specs.Table.{read}
 use Rattle.rules.specs.FormulaLaws.{passed, failed}
 use Rattle.rules.specs.Sound.{sound}
-use Rattle.sheet.specs.Going.{memory-tested}
+use Rattle.sound.specs.Whole.{memory-tested}
 use Rattle.sheet.specs.Settled.{kept-test, kept-not}
 use Rattle.sheet.proofs.is_kept.Statement.{statement}
 use Rattle.sheet.proofs.is_kept.Tie as tie

@@ -4,7 +4,7 @@ use borrow.Author.Needs.{needs}
 use Rattle.session.specs.Table.{read}
 use Rattle.rules.specs.Sound.{outputs}
 use Rattle.rules.specs.FormulaLaws.{passed, failed, fails, test-and}
-use Rattle.ancestors.specs.Above.{creators-fall}
+use Rattle.laws.specs.Under.{creators-fall}
 use Rattle.sound.specs.Whole.{fromLinks, fromOutputs}
 use Rattle.sound.proofs.are_outputs_and_rest.Statement.{statement}
 use Rattle.sound.proofs.are_outputs_and_rest.Tie as tie

@@ -1,10 +1,11 @@
-use Rattle.checks.specs.TestLaws.{after, agree, beside, equals, less-than, right, wrong}
+use Rattle.checks.specs.TestLaws.{after, beside, equals, less-than, right, wrong}
 use borrow.Author.Needs.{needs}
 use mathlib.Core.Logic.{inl, inr, ⊎-elim}
 use mathlib.Core.Path.{_∙_}
 use native.Mathlib.Omega.{arith}
 use Rattle.checks.proofs.objects.has_slot.Statement.{statement}
 use Rattle.checks.proofs.objects.has_slot.Tie as tie
+use Rattle.rules.specs.FormulaLaws.{test-same}
 
 of-requires : tie.Need-of-requires
 of-requires c κs = search needs
@@ -15,7 +16,7 @@ of-requires-2 c κs = search needs
 returns : tie.Need-returns
 returns c =
     rw (c .of2 .ensures)
-    (less-than _ _ ∙ agree _ _ (λ x. inl (omega arith, x)) (λ x. ⊎-elim (λ y. y .1) (λ y. absurd (omega arith)) x))
+    (less-than _ _ ∙ test-same _ _ (λ x. inl (omega arith, x)) (λ x. ⊎-elim (λ y. y .1) (λ y. absurd (omega arith)) x))
 
 returns-2 : tie.Need-returns-2
 returns-2 c = wrong _ (λ x. ⊎-elim (λ y. omega arith) (λ y. omega arith) x)

@@ -1,10 +1,11 @@
-use Rattle.checks.specs.TestLaws.{after, agree, equals, no-not, wrong, yes-not}
+use Rattle.checks.specs.TestLaws.{after, equals, no-not, wrong, yes-not}
 use borrow.Author.Needs.{needs}
 use mathlib.Core.Logic.{inl, inr, ⊎-elim}
 use mathlib.Core.Path.{_∙_}
 use native.Mathlib.Omega.{arith}
 use Rattle.checks.proofs.objects.overflows.Statement.{statement}
 use Rattle.checks.proofs.objects.overflows.Tie as tie
+use Rattle.rules.specs.FormulaLaws.{test-same}
 
 is-kind-requires : tie.Need-is-kind-requires
 is-kind-requires c κs = search needs
@@ -24,7 +25,7 @@ of-requires-2 c κs = search needs
 returns-3 : tie.Need-returns-3
 returns-3 c =
     rw (c .before .of2 .ensures)
-    (after _ _ (yes-not _ (c .before .before .before .before .before .is-kind .ensures) (c .before .before .before .before .if1 .left)) (after _ _ (omega arith) (equals _ _ ∙ agree _ _ (λ x. inl (omega arith, x)) (λ x. ⊎-elim (λ y. y .1) (λ y. absurd (omega arith)) x))))
+    (after _ _ (yes-not _ (c .before .before .before .before .before .is-kind .ensures) (c .before .before .before .before .if1 .left)) (after _ _ (omega arith) (equals _ _ ∙ test-same _ _ (λ x. inl (omega arith, x)) (λ x. ⊎-elim (λ y. y .1) (λ y. absurd (omega arith)) x))))
 
 returns-4 : tie.Need-returns-4
 returns-4 c = wrong _ (λ x. ⊎-elim (λ y. omega arith) (λ y. omega arith) (x .1 .1))
@@ -32,7 +33,7 @@ returns-4 c = wrong _ (λ x. ⊎-elim (λ y. omega arith) (λ y. omega arith) (x
 returns-5 : tie.Need-returns-5
 returns-5 c =
     rw (c .before .before .of2 .ensures)
-    (after _ _ (yes-not _ (c .before .before .before .before .before .before .is-kind .ensures) (c .before .before .before .before .before .if1 .left)) (after _ _ (omega arith) (equals _ _ ∙ agree _ _ (λ x. inr (omega arith, x)) (λ x. ⊎-elim (λ y. absurd (omega arith)) (λ y. y .1) x))))
+    (after _ _ (yes-not _ (c .before .before .before .before .before .before .is-kind .ensures) (c .before .before .before .before .before .if1 .left)) (after _ _ (omega arith) (equals _ _ ∙ test-same _ _ (λ x. inr (omega arith, x)) (λ x. ⊎-elim (λ y. absurd (omega arith)) (λ y. y .1) x))))
 
 pub overflows-spec : {M : Type 1} → statement M
 overflows-spec =
