@@ -1,12 +1,11 @@
 use session::Field;
-use session::names;
 ghost use mathlib.Core.Path.{_≡_};
 ghost use Prim.Native.Nat.{_+_, _≤_};
 ghost use lib.ListN.{length};
 ghost use Rattle.session.specs.Table.{read, words};
 ghost use Rattle.session.specs.declared.Field.the-variants.{Objects};
-ghost use Rattle.rules.specs.Formula.{test, Formula.never};
-ghost use Rattle.rules.specs.Reading.{isLive, busy};
+ghost use Rattle.rules.specs.Formula.{Formula.never};
+ghost use Rattle.rules.specs.Reading.{busy};
 ghost use Rattle.laws.specs.Under.{Falls};
 ghost use Rattle.ancestors.specs.Above.{ClosedBut, Above, Shows, busyBelow};
 
@@ -28,24 +27,13 @@ fn mark_above(s: &[u64], marks: &mut [u64], h: u64)
     mark_above(s, marks, c);
 }
 
-// Whether h is a live task. Internal, as `get` is.
-pub fn is_live(s: &[u64], h: u64) -> bool
-    requires { ⌜ (words ≤ length (now s)) × (h ≤ 512) ⌝ }
-    ensures { λ r. ⌜ r ≡ test (isLive (read (now (s .entry))) h) ⌝ }
-{
-    if session::get(s, Field::Kind, h as usize) != names::TASK {
-        return false;
-    }
-    session::get(s, Field::TaskState, h as usize) <= names::RUNNING
-}
-
 // Marks the ancestors of h if it is live. Internal, as `mark_above` is.
 fn mark_live(s: &[u64], marks: &mut [u64], h: u64)
     requires { ⌜ (words ≤ length (now s)) × (read (now s) Objects 0 ≤ 512) × Falls (read (now s)) × (h ≤ read (now s) Objects 0)
         × (length (now marks) ≡ 513) × Shows (now marks) (busyBelow (read (now s)) h) ⌝ }
     ensures { λ r. ⌜ Shows (now (marks .exit)) (busyBelow (read (now (s .entry))) (h + 1)) ⌝ }
 {
-    if is_live(s, h) {
+    if reading::is_live(s, h) {
         mark_above(s, marks, h);
     }
 }

@@ -1,7 +1,7 @@
 // What a grant's checks look at: the task by value, and the holds of other tasks. Internal.
-use crate::fields::of;
 use crate::fields::of_slot;
 use crate::objects::remains_or_null;
+use reading::of_object;
 use rules::Slot;
 use rules::Task;
 use session::Field;
@@ -140,7 +140,7 @@ fn has_claim(s: &[u64], t: u64) -> bool
     requires { ⌜ (words ≤ length (now s)) × (t ≤ 512) × (read (now s) TaskSlots t ≤ 16) ⌝ }
     ensures { λ r. ⌜ r ≡ test (hasClaim (read (now (s .entry))) t) ⌝ }
 {
-    let count = of(s, Field::TaskSlots, t);
+    let count = of_object(s, Field::TaskSlots, t);
     let mut j: u64 = 0;
     while j < count {
         if is_claim(slot_of(s, t as usize, j as usize)) {
@@ -169,10 +169,10 @@ fn maker_clashes(s: &[u64], t: u64, slot: Slot) -> bool
     if slot.payload == 0 {
         return false;
     }
-    if of(s, Field::BlockHeld, slot.payload) != 1 {
+    if of_object(s, Field::BlockHeld, slot.payload) != 1 {
         return false;
     }
-    if of(s, Field::BlockCreator, slot.payload) == t {
+    if of_object(s, Field::BlockCreator, slot.payload) == t {
         return false;
     }
     rules::conflicts(slot.mode, names::RW)
@@ -182,7 +182,7 @@ fn makers_clash(s: &[u64], t: u64) -> bool
     requires { ⌜ (words ≤ length (now s)) × (t ≤ 512) × (read (now s) TaskSlots t ≤ 16) ⌝ }
     ensures { λ r. ⌜ r ≡ test (makersClash (read (now (s .entry))) t) ⌝ }
 {
-    let count = of(s, Field::TaskSlots, t);
+    let count = of_object(s, Field::TaskSlots, t);
     let mut j: u64 = 0;
     while j < count {
         if maker_clashes(s, t, slot_of(s, t as usize, j as usize)) {
@@ -198,7 +198,7 @@ pub fn blocks_remain(s: &[u64], t: u64) -> bool
     requires { ⌜ words ≤ length (now s) ⌝ }
     ensures { λ r. ⌜ r ≡ test (blocksRemain (read (now (s .entry))) t) ⌝ }
 {
-    let count = of(s, Field::TaskSlots, t);
+    let count = of_object(s, Field::TaskSlots, t);
     let mut j: u64 = 0;
     while j < count {
         if !remains_or_null(s, of_slot(s, Field::SlotPayload, t, j)) {

@@ -1,6 +1,6 @@
 // Who holds a block.
-use crate::fields::of;
 use crate::fields::of_slot;
+use reading::of_object;
 use session::Field;
 use session::names;
 ghost use mathlib.Core.Path.{_≡_};
@@ -44,8 +44,8 @@ pub fn holds_block(s: &[u64], t: u64, b: u64) -> bool
     if some_slot_holds(s, t, b) {
         return true;
     }
-    if of(s, Field::BlockHeld, b) != 1 {
+    if of_object(s, Field::BlockHeld, b) != 1 {
         return false;
     }
-    of(s, Field::BlockCreator, b) == t
+    of_object(s, Field::BlockCreator, b) == t
 }

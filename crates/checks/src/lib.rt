@@ -14,13 +14,10 @@ pub mod granting;
 pub mod holding;
 pub mod objects;
 
-use crate::fields::of;
-use crate::fields::state_of_link;
 use crate::granting::blocks_remain;
 use crate::granting::is_free;
 use crate::holding::holds_block;
 use crate::objects::has_room;
-use crate::objects::has_slot;
 use crate::objects::is_block_or_null;
 use crate::objects::is_count;
 use crate::objects::is_destination;
@@ -29,14 +26,17 @@ use crate::objects::is_fired_sticky;
 use crate::objects::is_gone;
 use crate::objects::is_idle;
 use crate::objects::is_kind;
-use crate::objects::is_made;
 use crate::objects::is_made_or_null;
 use crate::objects::is_running;
 use crate::objects::is_source;
 use crate::objects::is_unclaimed;
-use crate::objects::is_user_event;
 use crate::objects::overflows;
 use crate::objects::remains_or_null;
+use reading::has_slot;
+use reading::is_made;
+use reading::is_user_event;
+use reading::of_link;
+use reading::of_object;
 use rules::refusals;
 use session::Field;
 use session::names;
@@ -236,7 +236,7 @@ pub fn release_refusal(s: &[u64], caller: u64, b: u64) -> u64
     if !is_kind(s, names::BLOCK, b) {
         return refusals::WRONG_KIND;
     }
-    if of(s, Field::BlockState, b) == names::BLOCK_DESTROYED {
+    if of_object(s, Field::BlockState, b) == names::BLOCK_DESTROYED {
         return refusals::GONE;
     }
     if !holds_block(s, caller, b) {
@@ -277,7 +277,7 @@ pub fn deliver_refusal(s: &[u64], l: u64) -> u64
     if session::get(s, Field::Links, 0) < l {
         return refusals::NEVER_MADE;
     }
-    if state_of_link(s, l) != names::READY {
+    if of_link(s, Field::LinkState, l) != names::READY {
         return refusals::WRONG_STATE;
     }
     0
@@ -297,7 +297,7 @@ pub fn grant_refusal(s: &[u64], t: u64) -> u64
     if is_gone(s, t) {
         return refusals::GONE;
     }
-    if of(s, Field::TaskState, t) != names::RESOLVED {
+    if of_object(s, Field::TaskState, t) != names::RESOLVED {
         return refusals::WRONG_STATE;
     }
     if !blocks_remain(s, t) {
@@ -322,7 +322,7 @@ pub fn start_refusal(s: &[u64], t: u64) -> u64
     if is_gone(s, t) {
         return refusals::GONE;
     }
-    if of(s, Field::TaskState, t) != names::GRANTED {
+    if of_object(s, Field::TaskState, t) != names::GRANTED {
         return refusals::WRONG_STATE;
     }
     0
@@ -350,7 +350,7 @@ pub fn end_refusal(s: &[u64], t: u64, b: u64) -> u64
     if !remains_or_null(s, b) {
         return refusals::GONE;
     }
-    if of(s, Field::TaskState, t) != names::RUNNING {
+    if of_object(s, Field::TaskState, t) != names::RUNNING {
         return refusals::WRONG_STATE;
     }
     0

@@ -1,6 +1,9 @@
 // What the rules say of one object, for any handle. Internal: callers have shown the length.
-use crate::fields::of;
 use crate::fields::of_slot;
+use reading::is_made;
+use reading::is_user_event;
+use reading::of_object;
+use reading::task_slots;
 use session::Field;
 use session::names;
 ghost use mathlib.Core.Path.{_≡_};
@@ -10,37 +13,16 @@ ghost use Rattle.session.specs.declared.Field.the-variants.{Objects, TaskState,
 ghost use Rattle.session.specs.Names.{task, event, block, resolved, mostObjects};
 ghost use Rattle.session.specs.Table.{read, words, at};
 ghost use Rattle.rules.specs.Formula.{test, Formula._≐_, Formula._≼_, Formula._or_, Formula._then_};
-ghost use Rattle.rules.specs.Reading.{made, isKind, isUserEvent, isRunning, isGone, hasSlot, overflows, isFiredSticky};
-ghost use Rattle.rules.specs.Checks.{orNull, remains, taskSlots};
+ghost use Rattle.rules.specs.Reading.{made, isKind, isUserEvent, isRunning, isGone, overflows, isFiredSticky};
+ghost use Rattle.rules.specs.Checks.{orNull, remains};
 ghost use Rattle.checks.specs.Gone.{isSpent};
 ghost use Rattle.checks.specs.CheckParts.{isCount};
-
-pub fn is_made(s: &[u64], h: u64) -> bool
-    requires { ⌜ words ≤ length (now s) ⌝ }
-    ensures { λ r. ⌜ r ≡ test (made (read (now (s .entry))) h) ⌝ }
-{
-    if h == 0 {
-        return false;
-    }
-    h <= session::get(s, Field::Objects, 0)
-}
 
 pub fn is_kind(s: &[u64], k: u64, h: u64) -> bool
     requires { ⌜ words ≤ length (now s) ⌝ }
     ensures { λ r. ⌜ r ≡ test (isKind (read (now (s .entry))) k h) ⌝ }
 {
-    of(s, Field::Kind, h) == k
-}
-
-// An event of a type that users make.
-pub fn is_user_event(s: &[u64], h: u64) -> bool
-    requires { ⌜ words ≤ length (now s) ⌝ }
-    ensures { λ r. ⌜ r ≡ test (isUserEvent (read (now (s .entry))) h) ⌝ }
-{
-    if !is_kind(s, names::EVENT, h) {
-        return false;
-    }
-    of(s, Field::EventType, h) <= names::LATCH
+    of_object(s, Field::Kind, h) == k
 }
 
 // As a caller must be.
@@ -54,7 +36,7 @@ pub fn is_running(s: &[u64], h: u64) -> bool
     if !is_kind(s, names::TASK, h) {
         return false;
     }
-    of(s, Field::TaskState, h) == names::RUNNING
+    of_object(s, Field::TaskState, h) == names::RUNNING
 }
 
 // A destroyed event, or one that counts as gone since it has fired.
@@ -62,14 +44,14 @@ pub fn is_spent(s: &[u64], e: u64) -> bool
     requires { ⌜ words ≤ length (now s) ⌝ }
     ensures { λ r. ⌜ r ≡ test (isSpent (read (now (s .entry))) e) ⌝ }
 {
-    let state = of(s, Field::EventState, e);
+    let state = of_object(s, Field::EventState, e);
     if names::DESTROYED_UNFIRED <= state {
         return true;
     }
     if state != names::FIRED {
         return false;
     }
-    let ty = of(s, Field::EventType, e);
+    let ty = of_object(s, Field::EventType, e);
     if ty == names::ONCE {
         return true;
     }
@@ -80,40 +62,20 @@ pub fn is_gone(s: &[u64], h: u64) -> bool
     requires { ⌜ words ≤ length (now s) ⌝ }
     ensures { λ r. ⌜ r ≡ test (isGone (read (now (s .entry))) h) ⌝ }
 {
-    let kind = of(s, Field::Kind, h);
+    let kind = of_object(s, Field::Kind, h);
     if kind == names::TEMPLATE {
-        return names::TEMPLATE_DESTROYED <= of(s, Field::TemplateState, h);
+        return names::TEMPLATE_DESTROYED <= of_object(s, Field::TemplateState, h);
     }
     if kind == names::TASK {
-        return names::ENDED <= of(s, Field::TaskState, h);
+        return names::ENDED <= of_object(s, Field::TaskState, h);
     }
     if kind == names::EVENT {
         return is_spent(s, h);
     }
     if kind == names::BLOCK {
-        return names::DOOMED <= of(s, Field::BlockState, h);
+        return names::DOOMED <= of_object(s, Field::BlockState, h);
     }
     false
-}
-
-pub fn has_slot(s: &[u64], h: u64, j: u64) -> bool
-    requires { ⌜ words ≤ length (now s) ⌝ }
-    ensures { λ r. ⌜ r ≡ test (hasSlot (read (now (s .entry))) h j) ⌝ }
-{
-    let kind = of(s, Field::Kind, h);
-    if kind == names::TASK {
-        return j < of(s, Field::TaskSlots, h);
-    }
-    if kind != names::EVENT {
-        return false;
-    }
-    if j == 0 {
-        return true;
-    }
-    if of(s, Field::EventType, h) != names::LATCH {
-        return false;
-    }
-    j == 1
 }
 
 // Whether a satisfaction of slot j would take the latch e out of its range.
@@ -124,10 +86,10 @@ pub fn overflows(s: &[u64], e: u64, j: u64) -> bool
     if !is_kind(s, names::EVENT, e) {
         return false;
     }
-    if of(s, Field::EventType, e) != names::LATCH {
+    if of_object(s, Field::EventType, e) != names::LATCH {
         return false;
     }
-    let tally = of(s, Field::EventTally, e);
+    let tally = of_object(s, Field::EventTally, e);
     if j == 0 {
         return tally == 0;
     }
@@ -144,10 +106,10 @@ pub fn is_fired_sticky(s: &[u64], e: u64) -> bool
     if !is_kind(s, names::EVENT, e) {
         return false;
     }
-    if of(s, Field::EventType, e) != names::STICKY {
+    if of_object(s, Field::EventType, e) != names::STICKY {
         return false;
     }
-    of(s, Field::EventState, e) == names::FIRED
+    of_object(s, Field::EventState, e) == names::FIRED
 }
 
 pub fn is_made_or_null(s: &[u64], h: u64) -> bool
@@ -237,18 +199,7 @@ pub fn is_idle(s: &[u64], h: u64) -> bool
     if !is_kind(s, names::TASK, h) {
         return true;
     }
-    of(s, Field::TaskState, h) <= names::RESOLVED
-}
-
-// How many pre-slots a task gets: 17 takes the template's count.
-pub fn task_slots(s: &[u64], template: u64, n: u64) -> u64
-    requires { ⌜ words ≤ length (now s) ⌝ }
-    ensures { λ r. ⌜ r ≡ taskSlots (read (now (s .entry))) template n ⌝ }
-{
-    if n == names::UNKNOWN_COUNT {
-        return of(s, Field::TemplateCount, template);
-    }
-    n
+    of_object(s, Field::TaskState, h) <= names::RESOLVED
 }
 
 // Whether a template admits a count of pre-slots.
@@ -260,7 +211,7 @@ pub fn is_count(s: &[u64], template: u64, n: u64) -> bool
     if 16 < count {
         return false;
     }
-    let known = of(s, Field::TemplateCount, template);
+    let known = of_object(s, Field::TemplateCount, template);
     if known == names::UNKNOWN_COUNT {
         return true;
     }

@@ -39,17 +39,6 @@ pub fn run_template(s: &mut [u64], caller: u64, n: u64) -> u64
     h
 }
 
-// How many pre-slots a task of template tm gets: 17 takes the template's. Internal: callers have shown the length and the handle.
-fn slots_of(s: &[u64], tm: u64, n: u64) -> u64
-    requires { ⌜ (words ≤ length (now s)) × (tm ≤ 512) ⌝ }
-    ensures { λ r. ⌜ r ≡ taskSlots (read (now (s .entry))) tm n ⌝ }
-{
-    if n == session::names::UNKNOWN_COUNT {
-        return session::get(s, Field::TemplateCount, tm as usize);
-    }
-    n
-}
-
 // 2 task (caller, template, count, finish, output). Internal, as `run_template` is.
 pub fn run_task(s: &mut [u64], caller: u64, tm: u64, n: u64, finish: u64, out: u64) -> u64
     requires { ⌜
@@ -62,7 +51,7 @@ pub fn run_task(s: &mut [u64], caller: u64, tm: u64, n: u64, finish: u64, out: u
         ⌝ }
 {
     let h = next_object(s);
-    let slots = slots_of(s, tm, n);
+    let slots = reading::task_slots(s, tm, n);
     make_task(s, caller, slots, finish, out);
     h
 }

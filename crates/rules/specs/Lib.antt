@@ -1,5 +1,6 @@
 pub mod Formula
 pub mod FormulaLaws
+pub mod Bools
 pub mod Reading
 pub mod Arity
 pub mod Conflicts

@@ -13,7 +13,7 @@ use Rattle.rules.specs.FormulaLaws.{Case, decide, passes, fails, test-and, test
 use Rattle.rules.specs.Reading.{at}
 use Rattle.rules.specs.Sound.{sound, soundUsed, kept, settled, isLink}
 use Rattle.laws.specs.SlotPlaces.{few-slots}
-use Rattle.sound.specs.Bools.{test-eq}
+use Rattle.rules.specs.Bools.{test-eq}
 
 module _ (s : Session) where
   -- a link that is not delivered leads to no slot of a task, or to one that is not satisfied

@@ -26,7 +26,7 @@ fn count_live(s: &[u64], last: u64) -> u64
     let mut found: u64 = 0;
     let mut h: u64 = 0;
     while h <= last {
-        if ancestors::is_live(s, h) {
+        if reading::is_live(s, h) {
             found += 1;
         }
         h += 1;

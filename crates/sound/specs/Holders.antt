@@ -19,7 +19,7 @@ use Rattle.rules.specs.Reading.{conflict}
 use Rattle.rules.specs.Conflicts.{conflict-modes, Writes}
 use Rattle.laws.specs.Places.{Places, places, Places.one, Places.two}
 use Rattle.sound.specs.Bodies.{clash}
-use Rattle.sound.specs.Bools.{test-both, test-either, test-not}
+use Rattle.rules.specs.Bools.{test-both, test-either, test-not}
 use Rattle.sound.specs.Held.{some-skip, some-keep}
 
 -- the place of block b and mode c + 1

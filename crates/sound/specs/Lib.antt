@@ -1,4 +1,3 @@
-pub mod Bools
 pub mod Loops
 pub mod Bodies
 pub mod Row

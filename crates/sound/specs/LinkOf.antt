@@ -20,7 +20,7 @@ use Rattle.laws.specs.SlotPlaces.{same-task, same-slot, low-slot}
 use Rattle.laws.specs.Places.{Places, places, Places.one, Places.two}
 use Rattle.sound.specs.Bodies.{linkAt}
 use Rattle.sound.specs.Row.{Row, row-set, row-same}
-use Rattle.sound.specs.Bools.{test-both, test-either}
+use Rattle.rules.specs.Bools.{test-both, test-either}
 
 -- what is known of links before the slots are looked at
 pub record Linked (s : Session) : Type 0 where

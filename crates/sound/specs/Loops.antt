@@ -4,7 +4,7 @@ use mathlib.Core.Path.{_≡_, refl}
 use mathlib.Core.Bool.{true, _&&_}
 use native.Mathlib.Numerals.{add-one}
 use Rattle.rules.specs.Formula.{Formula, test, count, choose, Formula.each}
-use Rattle.sound.specs.Bools.{elim-both}
+use Rattle.rules.specs.Bools.{elim-both}
 
 pub each-none : (f : ℕ → Formula) → test (each 0 f) ≡ true
 unfolding test

@@ -9,8 +9,8 @@ ghost use Rattle.rules.specs.Reading.{isHeld};
 ghost use Rattle.sound.specs.Bodies.{blockAt};
 ghost use Rattle.sound.specs.Row.{Row};
 ghost use Rattle.sound.specs.Held.{heldBy};
-use crate::places::of_object;
-use crate::places::of_slot;
+use reading::of_object;
+use reading::of_slot;
 use session::Field;
 use session::names;
 

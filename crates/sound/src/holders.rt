@@ -10,8 +10,8 @@ ghost use Rattle.sound.specs.Bodies.{clashMade, compatibleAt};
 ghost use Rattle.sound.specs.Row.{Row};
 ghost use Rattle.sound.specs.Holders.{Holders, joined, isOther, cell, clashes};
 ghost use Rattle.sound.specs.Whole.{IsHeld};
-use crate::places::of_object;
-use crate::places::of_slot;
+use reading::of_object;
+use reading::of_slot;
 use session::Field;
 use session::names;
 

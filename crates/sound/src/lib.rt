@@ -26,7 +26,7 @@ fn are_parts(s: &[u64], n: u64) -> bool
     requires { ⌜ (words ≤ length (now s)) × (n ≤ 512) × (n ≡ read (now s) Objects 0) ⌝ }
     ensures { λ r. ⌜ r ≡ test (parts (read (now (s .entry)))) ⌝ }
 {
-    let null = places::of_object(s, Field::Kind, 0) == 0;
+    let null = reading::of_object(s, Field::Kind, 0) == 0;
     let rest = tasks::are_creators(s, n) & unused::is_rest_unused(s);
     null & objects::are_objects(s, n) & (objects::are_roots(s) & rest)
 }

@@ -4,34 +4,15 @@ ghost use Prim.Native.Nat.{_+_, _≤_};
 ghost use lib.ListN.{length};
 ghost use Rattle.session.specs.Table.{read, words};
 ghost use Rattle.rules.specs.Formula.{test, count, Formula.each};
-ghost use Rattle.rules.specs.Reading.{hasSlot, isUserEvent};
 ghost use Rattle.rules.specs.Sound.{isLink};
 ghost use Rattle.sound.specs.Bodies.{linkAt, linkAgrees, isDelivered};
-use crate::places::is_made;
-use crate::places::of_link;
-use crate::places::of_object;
+use reading::has_slot;
+use reading::is_made;
+use reading::is_user_event;
+use reading::of_link;
+use reading::of_object;
 use session::Field;
 use session::names;
-
-// Whether an object has a slot of that number.
-pub fn has_slot(s: &[u64], h: u64, j: u64) -> bool
-    requires { ⌜ words ≤ length (now s) ⌝ }
-    ensures { λ r. ⌜ r ≡ test (hasSlot (read (now (s .entry))) h j) ⌝ }
-{
-    let kind = of_object(s, Field::Kind, h);
-    let latch = of_object(s, Field::EventType, h) == names::LATCH;
-    (kind == names::TASK) & (j < of_object(s, Field::TaskSlots, h))
-        | (kind == names::EVENT) & ((j == 0) | latch & (j == 1))
-}
-
-// Whether an object is an event of type 1 to 4.
-pub fn is_user_event(s: &[u64], h: u64) -> bool
-    requires { ⌜ words ≤ length (now s) ⌝ }
-    ensures { λ r. ⌜ r ≡ test (isUserEvent (read (now (s .entry))) h) ⌝ }
-{
-    (of_object(s, Field::Kind, h) == names::EVENT)
-        & (of_object(s, Field::EventType, h) <= names::LATCH)
-}
 
 // A link's state is in range and agrees with its source's.
 fn does_link_agree(s: &[u64], l: u64) -> bool

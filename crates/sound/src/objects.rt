@@ -6,10 +6,10 @@ ghost use Rattle.session.specs.Table.{read, words};
 ghost use Rattle.rules.specs.Formula.{test, Formula.each};
 ghost use Rattle.rules.specs.Sound.{counts, templatePart, taskPart, eventPart, blockPart, roots};
 ghost use Rattle.sound.specs.Bodies.{object, latchAt};
-use crate::places::is_made;
 use crate::places::is_payload;
-use crate::places::of_object;
-use crate::places::of_slot;
+use reading::is_made;
+use reading::of_object;
+use reading::of_slot;
 use session::Field;
 use session::names;
 

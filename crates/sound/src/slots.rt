@@ -8,10 +8,10 @@ ghost use Rattle.rules.specs.Formula.{test, Formula.each};
 ghost use Rattle.sound.specs.Row.{Row};
 ghost use Rattle.sound.specs.LinkOf.{Low, lastLink, linkedBy, paidBy, claimedBy, unclaimedBy, slotBy, slotAt, slotsAt, single};
 use crate::places::is_payload;
-use crate::places::of_link;
-use crate::places::of_object;
-use crate::places::of_slot;
 use crate::unused::is_no_slot;
+use reading::of_link;
+use reading::of_object;
+use reading::of_slot;
 use session::Field;
 use session::names;
 

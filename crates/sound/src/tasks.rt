@@ -9,10 +9,10 @@ ghost use Rattle.rules.specs.Reading.{busy};
 ghost use Rattle.ancestors.specs.Above.{Shows};
 ghost use Rattle.rules.specs.Sound.{creator, outputOf};
 ghost use Rattle.sound.specs.Bodies.{creatorAt, isFull, holding, stateAt, outputAt, outputState};
-use crate::places::is_made;
-use crate::places::of_object;
-use crate::places::of_slot;
 use crate::places::previous;
+use reading::is_made;
+use reading::of_object;
+use reading::of_slot;
 use session::Field;
 use session::names;
 

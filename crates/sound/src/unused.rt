@@ -10,9 +10,9 @@ use crate::objects::block_part;
 use crate::objects::event_part;
 use crate::objects::task_part;
 use crate::objects::template_part;
-use crate::places::of_link;
-use crate::places::of_object;
-use crate::places::of_slot;
+use reading::of_link;
+use reading::of_object;
+use reading::of_slot;
 use session::Field;
 
 pub fn is_no_slot(s: &[u64], i: u64) -> bool

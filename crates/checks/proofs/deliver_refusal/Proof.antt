@@ -16,7 +16,7 @@ past-9 : (c : tie.Else2) → Left (asked (c .before .before .before .before)) 1
 past-9 c = skip _ _ _ (omega arith, omega arith)
 
 past-16 : (c : tie.Else3) → Left (asked (c .before .before .before .before .before .before)) 2
-past-16 c = past-9 (c .before .before) ∙ skip _ _ _ (sym (c .before .state-of-link .ensures) ∙ c .if3 .left)
+past-16 c = past-9 (c .before .before) ∙ skip _ _ _ (sym (c .before .of-link .ensures) ∙ c .if3 .left)
 
 returns : tie.Need-returns
 returns c = stop _ _ _ (λ x. omega arith)
@@ -27,15 +27,15 @@ get-requires c κs = search needs
 returns-2 : tie.Need-returns-2
 returns-2 c = stop _ _ _ (λ x. omega arith)
 
-state-of-link-requires : tie.Need-state-of-link-requires
-state-of-link-requires c κs = search needs
+of-link-requires : tie.Need-of-link-requires
+of-link-requires c κs = search needs
 
 returns-3 : tie.Need-returns-3
-returns-3 c = stops _ _ _ (past-9 (c .before .before)) (λ x. c .if3 .taken (c .before .state-of-link .ensures ∙ x))
+returns-3 c = stops _ _ _ (past-9 (c .before .before)) (λ x. c .if3 .taken (c .before .of-link .ensures ∙ x))
 
 returns-4 : tie.Need-returns-4
 returns-4 c = sym (past-16 c ∙ done)
 
 pub deliver-refusal-spec : {M : Type 1} → statement M
 deliver-refusal-spec =
-    tie.close (tie.spec returns get-requires returns-2 state-of-link-requires returns-3 returns-4)
+    tie.close (tie.spec returns get-requires returns-2 of-link-requires returns-3 returns-4)

@@ -27,7 +27,7 @@ past-11 c =
     skip _ _ _ (no _ (c .before .before .before .is-gone .ensures) (c .before .before .if5 .left), yes-not _ (c .before .remains-or-null .ensures) (c .if6 .left))
 
 past-16 : (c : tie.Else7) → Left (asked (c .before .before .before .before .before .before .before .before .before .before .before .before .before .before .before)) 4
-past-16 c = past-11 (c .before .before) ∙ skip _ _ _ (sym (c .before .of .ensures) ∙ c .if7 .left)
+past-16 c = past-11 (c .before .before) ∙ skip _ _ _ (sym (c .before .of-object .ensures) ∙ c .if7 .left)
 
 is-made-requires : tie.Need-is-made-requires
 is-made-requires c κs = search needs
@@ -67,11 +67,11 @@ returns-6 : tie.Need-returns-6
 returns-6 c =
     stops _ _ _ (past-10 (c .before .before .before .before)) (λ x. no-not _ (c .before .remains-or-null .ensures) (c .if6 .taken) (x .1))
 
-of-requires : tie.Need-of-requires
-of-requires c κs = search needs
+of-object-requires : tie.Need-of-object-requires
+of-object-requires c κs = search needs
 
 returns-7 : tie.Need-returns-7
-returns-7 c = stops _ _ _ (past-11 (c .before .before)) (λ x. c .if7 .taken (c .before .of .ensures ∙ x))
+returns-7 c = stops _ _ _ (past-11 (c .before .before)) (λ x. c .if7 .taken (c .before .of-object .ensures ∙ x))
 
 returns-8 : tie.Need-returns-8
 returns-8 c = sym (past-16 c ∙ done)
@@ -92,6 +92,6 @@ end-refusal-spec =
     returns-5
     remains-or-null-requires
     returns-6
-    of-requires
+    of-object-requires
     returns-7
     returns-8)

@@ -24,7 +24,7 @@ past-11 : (c : tie.Else3) → Left (asked (c .before .before .before .before .be
 past-11 c = past-10 (c .before .before) ∙ skip _ _ _ (no _ (c .before .is-gone .ensures) (c .if3 .left))
 
 past-16 : (c : tie.Else4) → Left (asked (c .before .before .before .before .before .before .before .before .before)) 4
-past-16 c = past-11 (c .before .before) ∙ skip _ _ _ (sym (c .before .of .ensures) ∙ c .if4 .left)
+past-16 c = past-11 (c .before .before) ∙ skip _ _ _ (sym (c .before .of-object .ensures) ∙ c .if4 .left)
 
 past-17 : (c : tie.Else5) → Left (asked (c .before .before .before .before .before .before .before .before .before .before .before)) 5
 past-17 c =
@@ -52,11 +52,11 @@ is-gone-requires c κs = search needs
 returns-3 : tie.Need-returns-3
 returns-3 c = stops _ _ _ (past-10 (c .before .before)) (λ x. x (yes _ (c .before .is-gone .ensures) (c .if3 .taken)))
 
-of-requires : tie.Need-of-requires
-of-requires c κs = search needs
+of-object-requires : tie.Need-of-object-requires
+of-object-requires c κs = search needs
 
 returns-4 : tie.Need-returns-4
-returns-4 c = stops _ _ _ (past-11 (c .before .before)) (λ x. c .if4 .taken (c .before .of .ensures ∙ x))
+returns-4 c = stops _ _ _ (past-11 (c .before .before)) (λ x. c .if4 .taken (c .before .of-object .ensures ∙ x))
 
 blocks-remain-requires : tie.Need-blocks-remain-requires
 blocks-remain-requires c κs = search needs
@@ -71,7 +71,7 @@ is-free-requires c κs =
     let m = r .before .before .before .before .before .before in
     let a = m .before .before .before in
     let made = yes-not _ (m .before .is-made .ensures) (m .if1 .left) in
-    (omega arith, a .pre .1, omega arith, sym (r .before .of .ensures) ∙ r .if4 .left)
+    (omega arith, a .pre .1, omega arith, sym (r .before .of-object .ensures) ∙ r .if4 .left)
 
 returns-6 : tie.Need-returns-6
 returns-6 c = stops _ _ _ (past-17 (c .before .before)) (no-not _ (c .before .is-free .ensures) (c .if6 .taken))
@@ -89,7 +89,7 @@ grant-refusal-spec =
     returns-2
     is-gone-requires
     returns-3
-    of-requires
+    of-object-requires
     returns-4
     blocks-remain-requires
     returns-5

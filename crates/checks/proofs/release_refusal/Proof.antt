@@ -22,7 +22,7 @@ past-10 : (c : tie.Else3) → Left (asked (c .before .before .before .before .be
 past-10 c = past-9 (c .before .before) ∙ skip _ _ _ (yes-not _ (c .before .is-kind .ensures) (c .if3 .left))
 
 past-11 : (c : tie.Else4) → Left (asked (c .before .before .before .before .before .before .before .before .before)) 4
-past-11 c = past-10 (c .before .before) ∙ skip _ _ _ (λ x. c .if4 .left (c .before .of .ensures ∙ x))
+past-11 c = past-10 (c .before .before) ∙ skip _ _ _ (λ x. c .if4 .left (c .before .of-object .ensures ∙ x))
 
 past-15 : (c : tie.Else5) → Left (asked (c .before .before .before .before .before .before .before .before .before .before .before)) 5
 past-15 c = past-11 (c .before .before) ∙ skip _ _ _ (yes-not _ (c .before .holds-block .ensures) (c .if5 .left))
@@ -45,11 +45,11 @@ is-kind-requires c κs = search needs
 returns-3 : tie.Need-returns-3
 returns-3 c = stops _ _ _ (past-9 (c .before .before)) (no-not _ (c .before .is-kind .ensures) (c .if3 .taken))
 
-of-requires : tie.Need-of-requires
-of-requires c κs = search needs
+of-object-requires : tie.Need-of-object-requires
+of-object-requires c κs = search needs
 
 returns-4 : tie.Need-returns-4
-returns-4 c = stops _ _ _ (past-10 (c .before .before)) (λ x. x (sym (c .before .of .ensures) ∙ c .if4 .taken))
+returns-4 c = stops _ _ _ (past-10 (c .before .before)) (λ x. x (sym (c .before .of-object .ensures) ∙ c .if4 .taken))
 
 holds-block-requires : tie.Need-holds-block-requires
 holds-block-requires c κs = search needs
@@ -70,7 +70,7 @@ release-refusal-spec =
     returns-2
     is-kind-requires
     returns-3
-    of-requires
+    of-object-requires
     returns-4
     holds-block-requires
     returns-5

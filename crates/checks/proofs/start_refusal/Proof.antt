@@ -22,7 +22,7 @@ past-11 : (c : tie.Else3) → Left (asked (c .before .before .before .before .be
 past-11 c = past-10 (c .before .before) ∙ skip _ _ _ (no _ (c .before .is-gone .ensures) (c .if3 .left))
 
 past-16 : (c : tie.Else4) → Left (asked (c .before .before .before .before .before .before .before .before .before)) 4
-past-16 c = past-11 (c .before .before) ∙ skip _ _ _ (sym (c .before .of .ensures) ∙ c .if4 .left)
+past-16 c = past-11 (c .before .before) ∙ skip _ _ _ (sym (c .before .of-object .ensures) ∙ c .if4 .left)
 
 is-made-requires : tie.Need-is-made-requires
 is-made-requires c κs = search needs
@@ -42,11 +42,11 @@ is-gone-requires c κs = search needs
 returns-3 : tie.Need-returns-3
 returns-3 c = stops _ _ _ (past-10 (c .before .before)) (λ x. x (yes _ (c .before .is-gone .ensures) (c .if3 .taken)))
 
-of-requires : tie.Need-of-requires
-of-requires c κs = search needs
+of-object-requires : tie.Need-of-object-requires
+of-object-requires c κs = search needs
 
 returns-4 : tie.Need-returns-4
-returns-4 c = stops _ _ _ (past-11 (c .before .before)) (λ x. c .if4 .taken (c .before .of .ensures ∙ x))
+returns-4 c = stops _ _ _ (past-11 (c .before .before)) (λ x. c .if4 .taken (c .before .of-object .ensures ∙ x))
 
 returns-5 : tie.Need-returns-5
 returns-5 c = sym (past-16 c ∙ done)
@@ -61,6 +61,6 @@ start-refusal-spec =
     returns-2
     is-gone-requires
     returns-3
-    of-requires
+    of-object-requires
     returns-4
     returns-5)

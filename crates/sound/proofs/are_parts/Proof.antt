@@ -6,7 +6,7 @@ use Rattle.session.specs.Table.{read}
 use Rattle.rules.specs.Sound.{objects, roots, creators, unused}
 use Rattle.rules.specs.Formula.{Formula._≐_, Formula._and_, Formula.each}
 use Rattle.sound.specs.Bodies.{object}
-use Rattle.sound.specs.Bools.{test-both, test-eq}
+use Rattle.rules.specs.Bools.{test-both, test-eq}
 use Rattle.sound.proofs.are_parts.Statement.{statement}
 use Rattle.sound.proofs.are_parts.Tie as tie
 

@@ -8,7 +8,7 @@ use Rattle.rules.specs.Sound.{states, blocks, compatible, latches, dropped}
 use Rattle.rules.specs.Formula.{count, Formula._and_}
 use Rattle.laws.specs.SlotPlaces.{few-slots}
 use Rattle.sound.specs.Bodies.{isDelivered}
-use Rattle.sound.specs.Bools.{test-both, test-le}
+use Rattle.rules.specs.Bools.{test-both, test-le}
 use Rattle.sound.specs.Whole.{slots-held}
 use Rattle.sound.proofs.are_uses.Statement.{statement}
 use Rattle.sound.proofs.are_uses.Tie as tie

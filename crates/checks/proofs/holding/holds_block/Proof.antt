@@ -11,21 +11,21 @@ some-slot-holds-requires c κs = search needs
 returns : tie.Need-returns
 returns c = right _ (inl (yes _ (c .before .some-slot-holds .ensures) (c .if1 .taken)))
 
-of-requires : tie.Need-of-requires
-of-requires c κs = search needs
+of-object-requires : tie.Need-of-object-requires
+of-object-requires c κs = search needs
 
 returns-2 : tie.Need-returns-2
 returns-2 c =
     wrong _ (λ x. ⊎-elim (no _ (c .before .before .before .some-slot-holds .ensures) (c .before .before .if1 .left)) (λ y. omega arith) x)
 
-of-requires-2 : tie.Need-of-requires-2
-of-requires-2 c κs = search needs
+of-object-requires-2 : tie.Need-of-object-requires-2
+of-object-requires-2 c κs = search needs
 
 returns-3 : tie.Need-returns-3
 returns-3 c =
-    rw (c .of2 .ensures) (beside _ _ (no _ (c .before .before .before .before .some-slot-holds .ensures) (c .before .before .before .if1 .left)) (after _ _ (omega arith) (equals _ _)))
+    rw (c .of-object2 .ensures) (beside _ _ (no _ (c .before .before .before .before .some-slot-holds .ensures) (c .before .before .before .if1 .left)) (after _ _ (omega arith) (equals _ _)))
 
 pub holds-block-spec : {M : Type 1} → statement M
 holds-block-spec =
     tie.close
-    (tie.spec some-slot-holds-requires returns of-requires returns-2 of-requires-2 returns-3)
+    (tie.spec some-slot-holds-requires returns of-object-requires returns-2 of-object-requires-2 returns-3)

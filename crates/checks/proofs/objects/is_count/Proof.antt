@@ -11,15 +11,15 @@ task-slots-requires c κs = search needs
 returns : tie.Need-returns
 returns c = wrong _ (λ x. omega arith)
 
-of-requires : tie.Need-of-requires
-of-requires c κs = search needs
+of-object-requires : tie.Need-of-object-requires
+of-object-requires c κs = search needs
 
 returns-2 : tie.Need-returns-2
 returns-2 c = right _ (omega arith, inl (omega arith))
 
 returns-3 : tie.Need-returns-3
 returns-3 c =
-    rw (c .before .of .ensures, c .before .before .before .task-slots .ensures) (after _ _ (omega arith) (beside _ _ (λ x. omega arith) (equals _ _)))
+    rw (c .before .of-object .ensures, c .before .before .before .task-slots .ensures) (after _ _ (omega arith) (beside _ _ (λ x. omega arith) (equals _ _)))
 
 pub is-count-spec : {M : Type 1} → statement M
-is-count-spec = tie.close (tie.spec task-slots-requires returns of-requires returns-2 returns-3)
+is-count-spec = tie.close (tie.spec task-slots-requires returns of-object-requires returns-2 returns-3)

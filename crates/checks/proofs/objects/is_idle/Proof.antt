@@ -9,12 +9,12 @@ is-kind-requires c κs = search needs
 returns : tie.Need-returns
 returns c = right _ (λ x. absurd (no-not _ (c .before .is-kind .ensures) (c .if1 .taken) x))
 
-of-requires : tie.Need-of-requires
-of-requires c κs = search needs
+of-object-requires : tie.Need-of-object-requires
+of-object-requires c κs = search needs
 
 returns-2 : tie.Need-returns-2
 returns-2 c =
-    rw (c .of .ensures) (given _ _ (yes-not _ (c .before .before .is-kind .ensures) (c .before .if1 .left)) (at-most _ _))
+    rw (c .of-object .ensures) (given _ _ (yes-not _ (c .before .before .is-kind .ensures) (c .before .if1 .left)) (at-most _ _))
 
 pub is-idle-spec : {M : Type 1} → statement M
-is-idle-spec = tie.close (tie.spec is-kind-requires returns of-requires returns-2)
+is-idle-spec = tie.close (tie.spec is-kind-requires returns of-object-requires returns-2)

@@ -15,16 +15,16 @@ is-kind-requires c κs = search needs
 returns-2 : tie.Need-returns-2
 returns-2 c = wrong _ (λ x. no-not _ (c .before .is-kind .ensures) (c .if2 .taken) (x .1 .0))
 
-of-requires : tie.Need-of-requires
-of-requires c κs = search needs
+of-object-requires : tie.Need-of-object-requires
+of-object-requires c κs = search needs
 
 returns-3 : tie.Need-returns-3
 returns-3 c =
     let k = c .before .before in
     let m = k .before .before in
-    rw (c .of .ensures)
+    rw (c .of-object .ensures)
     (after _ _ (yes-not _ (m .is-made .ensures) (k .before .if1 .left)) (after _ _ (yes-not _ (k .is-kind .ensures) (c .before .if2 .left)) (equals _ _)))
 
 pub is-running-spec : {M : Type 1} → statement M
 is-running-spec =
-    tie.close (tie.spec is-made-requires returns is-kind-requires returns-2 of-requires returns-3)
+    tie.close (tie.spec is-made-requires returns is-kind-requires returns-2 of-object-requires returns-3)

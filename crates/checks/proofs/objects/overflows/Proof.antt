@@ -13,18 +13,18 @@ is-kind-requires c κs = search needs
 returns : tie.Need-returns
 returns c = wrong _ (λ x. no-not _ (c .before .is-kind .ensures) (c .if1 .taken) (x .0))
 
-of-requires : tie.Need-of-requires
-of-requires c κs = search needs
+of-object-requires : tie.Need-of-object-requires
+of-object-requires c κs = search needs
 
 returns-2 : tie.Need-returns-2
 returns-2 c = wrong _ (λ x. omega arith)
 
-of-requires-2 : tie.Need-of-requires-2
-of-requires-2 c κs = search needs
+of-object-requires-2 : tie.Need-of-object-requires-2
+of-object-requires-2 c κs = search needs
 
 returns-3 : tie.Need-returns-3
 returns-3 c =
-    rw (c .before .of2 .ensures)
+    rw (c .before .of-object2 .ensures)
     (after _ _ (yes-not _ (c .before .before .before .before .before .is-kind .ensures) (c .before .before .before .before .if1 .left)) (after _ _ (omega arith) (equals _ _ ∙ test-same _ _ (λ x. inl (omega arith, x)) (λ x. ⊎-elim (λ y. y .1) (λ y. absurd (omega arith)) x))))
 
 returns-4 : tie.Need-returns-4
@@ -32,7 +32,7 @@ returns-4 c = wrong _ (λ x. ⊎-elim (λ y. omega arith) (λ y. omega arith) (x
 
 returns-5 : tie.Need-returns-5
 returns-5 c =
-    rw (c .before .before .of2 .ensures)
+    rw (c .before .before .of-object2 .ensures)
     (after _ _ (yes-not _ (c .before .before .before .before .before .before .is-kind .ensures) (c .before .before .before .before .before .if1 .left)) (after _ _ (omega arith) (equals _ _ ∙ test-same _ _ (λ x. inr (omega arith, x)) (λ x. ⊎-elim (λ y. absurd (omega arith)) (λ y. y .1) x))))
 
 pub overflows-spec : {M : Type 1} → statement M
@@ -41,9 +41,9 @@ overflows-spec =
     (tie.spec
     is-kind-requires
     returns
-    of-requires
+    of-object-requires
     returns-2
-    of-requires-2
+    of-object-requires-2
     returns-3
     returns-4
     returns-5)

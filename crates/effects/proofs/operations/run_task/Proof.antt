@@ -5,8 +5,8 @@ use Rattle.effects.proofs.operations.run_task.Tie as tie
 next-object-requires : tie.Need-next-object-requires
 next-object-requires c κs = search needs
 
-slots-of-requires : tie.Need-slots-of-requires
-slots-of-requires c κs = search needs
+task-slots-requires : tie.Need-task-slots-requires
+task-slots-requires c κs = search needs
 
 make-task-requires : tie.Need-make-task-requires
 make-task-requires c κs = search needs
@@ -17,9 +17,9 @@ same-length c = search needs
 returns : tie.Need-returns
 returns c =
     let n = c .before .before .before .before in
-    record { wrote = rw (← n .slots-of .ensures) (c .before .before .make-task .ensures); answer = n .before .before .next-object .ensures }
+    record { wrote = rw (← n .task-slots .ensures) (c .before .before .make-task .ensures); answer = n .before .before .next-object .ensures }
 
 pub run-task-spec : {M : Type 1} → statement M
 run-task-spec =
     tie.close
-    (tie.spec next-object-requires slots-of-requires make-task-requires same-length returns)
+    (tie.spec next-object-requires task-slots-requires make-task-requires same-length returns)

@@ -1,5 +1,5 @@
 use borrow.Author.Needs.{needs}
-use Rattle.sound.specs.Bools.{test-not, test-implies, test-both, test-eq, test-le}
+use Rattle.rules.specs.Bools.{test-not, test-implies, test-both, test-eq, test-le}
 use Rattle.sound.proofs.blocks.is_block.Statement.{statement}
 use Rattle.sound.proofs.blocks.is_block.Tie as tie
 

@@ -8,7 +8,7 @@ use Rattle.session.specs.Table.{read}
 use Rattle.rules.specs.Reading.{slotHolds}
 use Rattle.rules.specs.Formula.{Formula._≐_, Formula.some}
 use Rattle.sound.specs.Held.{heldBy}
-use Rattle.sound.specs.Bools.{chosen, test-either, test-eq}
+use Rattle.rules.specs.Bools.{chosen, test-either, test-eq}
 use Rattle.sound.proofs.blocks.is_held.Statement.{statement}
 use Rattle.sound.proofs.blocks.is_held.Tie as tie
 

@@ -1,5 +1,5 @@
 use borrow.Author.Needs.{needs}
-use Rattle.sound.specs.Bools.{test-not, test-both, test-either, test-eq}
+use Rattle.rules.specs.Bools.{test-not, test-both, test-either, test-eq}
 use Rattle.sound.proofs.holders.clashes_with_maker.Statement.{statement}
 use Rattle.sound.proofs.holders.clashes_with_maker.Tie as tie
 

@@ -1,5 +1,5 @@
 use borrow.Author.Needs.{needs}
-use Rattle.sound.specs.Bools.{test-both, test-implies, test-eq, test-le}
+use Rattle.rules.specs.Bools.{test-both, test-implies, test-eq, test-le}
 use Rattle.sound.proofs.links.does_link_agree.Statement.{statement}
 use Rattle.sound.proofs.links.does_link_agree.Tie as tie
 

@@ -1,5 +1,5 @@
 use borrow.Author.Needs.{needs}
-use Rattle.sound.specs.Bools.{test-eq}
+use Rattle.rules.specs.Bools.{test-eq}
 use Rattle.sound.proofs.links.is_delivered.Statement.{statement}
 use Rattle.sound.proofs.links.is_delivered.Tie as tie
 

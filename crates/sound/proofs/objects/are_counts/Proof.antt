@@ -1,5 +1,5 @@
 use borrow.Author.Needs.{needs}
-use Rattle.sound.specs.Bools.{test-both, test-le}
+use Rattle.rules.specs.Bools.{test-both, test-le}
 use Rattle.sound.proofs.objects.are_counts.Statement.{statement}
 use Rattle.sound.proofs.objects.are_counts.Tie as tie
 

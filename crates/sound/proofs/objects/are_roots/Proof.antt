@@ -1,5 +1,5 @@
 use borrow.Author.Needs.{needs}
-use Rattle.sound.specs.Bools.{test-both, test-eq, test-le}
+use Rattle.rules.specs.Bools.{test-both, test-eq, test-le}
 use Rattle.sound.proofs.objects.are_roots.Statement.{statement}
 use Rattle.sound.proofs.objects.are_roots.Tie as tie
 

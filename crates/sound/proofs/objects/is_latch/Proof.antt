@@ -1,5 +1,5 @@
 use borrow.Author.Needs.{needs}
-use Rattle.sound.specs.Bools.{test-both, test-either, test-implies, test-eq}
+use Rattle.rules.specs.Bools.{test-both, test-either, test-implies, test-eq}
 use Rattle.sound.proofs.objects.is_latch.Statement.{statement}
 use Rattle.sound.proofs.objects.is_latch.Tie as tie
 

@@ -1,5 +1,5 @@
 use borrow.Author.Needs.{needs}
-use Rattle.sound.specs.Bools.{test-implies, test-both, test-le}
+use Rattle.rules.specs.Bools.{test-implies, test-both, test-le}
 use Rattle.sound.proofs.objects.is_object.Statement.{statement}
 use Rattle.sound.proofs.objects.is_object.Tie as tie
 

@@ -1,5 +1,5 @@
 use borrow.Author.Needs.{needs}
-use Rattle.sound.specs.Bools.{test-implies, test-both, test-eq, test-le}
+use Rattle.rules.specs.Bools.{test-implies, test-both, test-eq, test-le}
 use Rattle.sound.proofs.slots.is_claimed_by.Statement.{statement}
 use Rattle.sound.proofs.slots.is_claimed_by.Tie as tie
 

@@ -1,5 +1,5 @@
 use borrow.Author.Needs.{needs}
-use Rattle.sound.specs.Bools.{test-not, test-both, test-either, test-implies, test-eq, test-le}
+use Rattle.rules.specs.Bools.{test-not, test-both, test-either, test-implies, test-eq, test-le}
 use Rattle.sound.proofs.slots.is_linked_by.Statement.{statement}
 use Rattle.sound.proofs.slots.is_linked_by.Tie as tie
 

@@ -1,5 +1,5 @@
 use borrow.Author.Needs.{needs}
-use Rattle.sound.specs.Bools.{test-both, test-implies, test-eq, test-le}
+use Rattle.rules.specs.Bools.{test-both, test-implies, test-eq, test-le}
 use Rattle.sound.proofs.slots.is_paid_by.Statement.{statement}
 use Rattle.sound.proofs.slots.is_paid_by.Tie as tie
 

@@ -10,7 +10,7 @@ use Rattle.rules.specs.Reading.{at, isKind}
 use Rattle.rules.specs.FormulaLaws.{passes, test-then}
 use Rattle.rules.specs.Formula.{Formula._≐_, Formula._≼_, Formula._and_}
 use Rattle.sound.specs.LinkOf.{lastLink}
-use Rattle.sound.specs.Bools.{test-eq}
+use Rattle.rules.specs.Bools.{test-eq}
 use Rattle.sound.proofs.slots.is_single.Statement.{statement}
 use Rattle.sound.proofs.slots.is_single.Tie as tie
 

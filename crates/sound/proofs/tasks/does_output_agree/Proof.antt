@@ -1,5 +1,5 @@
 use borrow.Author.Needs.{needs}
-use Rattle.sound.specs.Bools.{test-not, test-both, test-either, test-implies, test-eq}
+use Rattle.rules.specs.Bools.{test-not, test-both, test-either, test-implies, test-eq}
 use Rattle.sound.proofs.tasks.does_output_agree.Statement.{statement}
 use Rattle.sound.proofs.tasks.does_output_agree.Tie as tie
 

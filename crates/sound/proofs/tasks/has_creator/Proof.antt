@@ -1,5 +1,5 @@
 use borrow.Author.Needs.{needs}
-use Rattle.sound.specs.Bools.{test-implies, test-eq}
+use Rattle.rules.specs.Bools.{test-implies, test-eq}
 use Rattle.sound.proofs.tasks.has_creator.Statement.{statement}
 use Rattle.sound.proofs.tasks.has_creator.Tie as tie
 

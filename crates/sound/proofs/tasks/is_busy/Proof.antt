@@ -3,7 +3,7 @@ use borrow.Author.Needs.{needs}
 use Rattle.session.specs.Table.{read}
 use Rattle.rules.specs.Reading.{busy}
 use Rattle.ancestors.specs.Above.{Shows}
-use Rattle.sound.specs.Bools.{chosen}
+use Rattle.rules.specs.Bools.{chosen}
 use Rattle.sound.proofs.tasks.is_busy.Statement.{statement}
 use Rattle.sound.proofs.tasks.is_busy.Tie as tie
 

@@ -1,5 +1,5 @@
 use borrow.Author.Needs.{needs}
-use Rattle.sound.specs.Bools.{test-both, test-either, test-eq, test-lt, test-le}
+use Rattle.rules.specs.Bools.{test-both, test-either, test-eq, test-lt, test-le}
 use Rattle.sound.proofs.tasks.is_creator.Statement.{statement}
 use Rattle.sound.proofs.tasks.is_creator.Tie as tie
 

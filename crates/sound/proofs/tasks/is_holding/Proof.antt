@@ -1,5 +1,5 @@
 use borrow.Author.Needs.{needs}
-use Rattle.sound.specs.Bools.{test-both, test-either, test-implies, test-eq, test-le}
+use Rattle.rules.specs.Bools.{test-both, test-either, test-implies, test-eq, test-le}
 use Rattle.sound.proofs.tasks.is_holding.Statement.{statement}
 use Rattle.sound.proofs.tasks.is_holding.Tie as tie
 

@@ -1,5 +1,5 @@
 use borrow.Author.Needs.{needs}
-use Rattle.sound.specs.Bools.{test-le}
+use Rattle.rules.specs.Bools.{test-le}
 use Rattle.sound.proofs.tasks.is_satisfied.Statement.{statement}
 use Rattle.sound.proofs.tasks.is_satisfied.Tie as tie
 

@@ -1,5 +1,5 @@
 use borrow.Author.Needs.{needs}
-use Rattle.sound.specs.Bools.{test-not, test-implies, test-both, test-eq, test-le}
+use Rattle.rules.specs.Bools.{test-not, test-implies, test-both, test-eq, test-le}
 use Rattle.sound.proofs.tasks.is_state.Statement.{statement}
 use Rattle.sound.proofs.tasks.is_state.Tie as tie
 

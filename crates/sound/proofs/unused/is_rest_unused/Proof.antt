@@ -1,5 +1,5 @@
 use borrow.Author.Needs.{needs}
-use Rattle.sound.specs.Bools.{test-both}
+use Rattle.rules.specs.Bools.{test-both}
 use Rattle.sound.proofs.unused.is_rest_unused.Statement.{statement}
 use Rattle.sound.proofs.unused.is_rest_unused.Tie as tie
 

@@ -1,5 +1,5 @@
 use borrow.Author.Needs.{needs}
-use Rattle.sound.specs.Bools.{test-implies, test-lt}
+use Rattle.rules.specs.Bools.{test-implies, test-lt}
 use Rattle.sound.proofs.unused.is_unused_link.Statement.{statement}
 use Rattle.sound.proofs.unused.is_unused_link.Tie as tie
 

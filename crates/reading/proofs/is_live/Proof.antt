@@ -7,8 +7,8 @@ use Rattle.session.specs.Names.{task, running}
 use Rattle.session.specs.declared.Field.the-variants.{Kind, TaskState}
 use Rattle.rules.specs.Formula.{test, Formula._≐_, Formula._≼_}
 use denote.Ref.{now}
-use Rattle.ancestors.proofs.is_live.Statement.{statement}
-use Rattle.ancestors.proofs.is_live.Tie as tie
+use Rattle.reading.proofs.is_live.Statement.{statement}
+use Rattle.reading.proofs.is_live.Tie as tie
 
 get-requires : tie.Need-get-requires
 get-requires c κs = search needs

@@ -1,8 +1,8 @@
 use borrow.Author.Tests.{le-ltb}
 use borrow.Author.Needs.{needs}
 use Rattle.session.specs.Table.{read}
-use Rattle.sound.proofs.places.of_object.Statement.{statement}
-use Rattle.sound.proofs.places.of_object.Tie as tie
+use Rattle.reading.proofs.of_object.Statement.{statement}
+use Rattle.reading.proofs.of_object.Tie as tie
 
 returns : tie.Need-returns
 unfolding read

@@ -1,7 +1,7 @@
 use borrow.Author.Needs.{needs}
-use Rattle.sound.specs.Bools.{test-both, test-le}
-use Rattle.sound.proofs.places.is_made.Statement.{statement}
-use Rattle.sound.proofs.places.is_made.Tie as tie
+use Rattle.rules.specs.Bools.{test-both, test-le}
+use Rattle.reading.proofs.is_made.Statement.{statement}
+use Rattle.reading.proofs.is_made.Tie as tie
 
 get-requires : tie.Need-get-requires
 get-requires c κs = search needs

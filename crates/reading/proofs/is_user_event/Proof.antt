@@ -1,7 +1,7 @@
 use borrow.Author.Needs.{needs}
-use Rattle.sound.specs.Bools.{test-both, test-eq, test-le}
-use Rattle.sound.proofs.links.is_user_event.Statement.{statement}
-use Rattle.sound.proofs.links.is_user_event.Tie as tie
+use Rattle.rules.specs.Bools.{test-both, test-eq, test-le}
+use Rattle.reading.proofs.is_user_event.Statement.{statement}
+use Rattle.reading.proofs.is_user_event.Tie as tie
 
 of-object-requires : tie.Need-of-object-requires
 of-object-requires c κs = search needs

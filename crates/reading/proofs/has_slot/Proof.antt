@@ -1,7 +1,7 @@
 use borrow.Author.Needs.{needs}
-use Rattle.sound.specs.Bools.{test-both, test-either, test-eq, test-lt}
-use Rattle.sound.proofs.links.has_slot.Statement.{statement}
-use Rattle.sound.proofs.links.has_slot.Tie as tie
+use Rattle.rules.specs.Bools.{test-both, test-either, test-eq, test-lt}
+use Rattle.reading.proofs.has_slot.Statement.{statement}
+use Rattle.reading.proofs.has_slot.Tie as tie
 
 of-object-requires : tie.Need-of-object-requires
 of-object-requires c κs = search needs
