@@ -1,0 +1,49 @@
+#!/usr/bin/env python3
+"""run.py: the README's first command, `./run`.
+
+Document 01's listing as text must give the lines of document 01, with the names of its operations on standard error; a text
+with a word that is no number must give that line's number and nothing else. Prints `N passed, M failed`.
+"""
+import os
+import subprocess
+import sys
+import tempfile
+
+ROOT = os.path.dirname(os.path.dirname(os.path.abspath(__file__)))
+LISTING = os.path.join(ROOT, 'crates', 'ocr_sheet', 'stdout')
+NAMES = ['grant', 'start', 'template', 'task', 'event', 'dependence', 'satisfy', 'deliver', 'grant', 'release', 'grant', 'end']
+
+
+def run(folder, *files):
+    """The exit status, standard output and standard error of `./run`, called from a folder."""
+    command = [os.path.join(ROOT, 'run'), *files]
+    done = subprocess.run(command, cwd=folder, stdout=subprocess.PIPE, stderr=subprocess.PIPE, text=True)
+    return done.returncode, done.stdout, done.stderr
+
+
+def named(told):
+    """The operations' names, in the order in which they are told."""
+    return [line.split('# ')[1] for line in told.splitlines() if '# ' in line]
+
+
+def main():
+    with open(LISTING) as file:
+        lines = file.read()
+    with tempfile.TemporaryDirectory() as folder:
+        with open(os.path.join(folder, 'bad.txt'), 'w') as file:
+            file.write('1\n10 2\n11 two\n')
+        listing, bad = run(ROOT), run(folder, 'bad.txt')
+    tests = [
+        ('the listing', listing[:2], (0, lines)),
+        ('its names', named(listing[2]), NAMES),
+        ('a word that is no number', bad[:2], (1, 'line 3\n')),
+    ]
+    failed = [(name, got, wanted) for name, got, wanted in tests if got != wanted]
+    for name, got, wanted in failed:
+        print(f'{name}: got {got}, not {wanted}')
+    print(f'{len(tests) - len(failed)} passed, {len(failed)} failed')
+    return 1 if failed else 0
+
+
+if __name__ == '__main__':
+    sys.exit(main())
