@@ -7,7 +7,7 @@ use lib.ListN.{length, drop}
 use lib.Dec.{leb}
 use mathlib.Core.Bool.{true, false}
 use Rattle.session.specs.Table.{Session, Wrote, read, words}
-use Rattle.session.specs.TableLaws.{wrote-then}
+use Rattle.session.specs.TableLaws.{wrote-none, wrote-then}
 use Rattle.session.specs.Fresh.{freshSession, Leaves}
 use Rattle.rules.specs.Formula.{holds}
 use Rattle.rules.specs.Sound.{kept}
@@ -50,7 +50,7 @@ module _ (sheet : List ℕ) (first : ℕ) (before now : List ℕ) (at k : ℕ) (
 
   pub printing-end : length sheet ≤ at → Wrote before now (printOf sheet first 0 before .session)
   printing-end h =
-      printed-all now (read now) [] (record { same-length = refl; reading = refl; past = refl }) (print-end sheet at k (read now) (length sheet) h)
+      printed-all now (read now) [] (wrote-none _) (print-end sheet at k (read now) (length sheet) h)
 
   module _ (inside : at < length sheet) (small : length sheet < 2 ^ 64) (lines : List ℕ) (long : 32 ≤ length lines) (ws lines′ : List ℕ) (e : Ended)
       (x : Ends now ws lines′ e (runOf sheet at k now lines 0)) where
@@ -75,19 +75,19 @@ module _ (sheet : List ℕ) (first : ℕ) (before now : List ℕ) (at k : ℕ) (
             count = rw (x .place, x .number) (h .count);
             printed = g .printed ++ text (r .lines);
             whole = g .whole ∙ ap (after (g .printed)) (sym (this .same) ∙ rest-full sheet r (sym (x .ending) ∙ q))
-                ∙ more (r .lines .used);
+                ∙ more;
           },
         )
       where
-        more : ℕ → after (g .printed) (after (text (runOf sheet at k now lines 0 .lines)) (printFrom sheet (length sheet) (runOf sheet at k now lines 0 .place) (runOf sheet at k now lines 0 .number - 1) (runOf sheet at k now lines 0 .session)))
+        more : after (g .printed) (after (text (runOf sheet at k now lines 0 .lines)) (printFrom sheet (length sheet) (runOf sheet at k now lines 0 .place) (runOf sheet at k now lines 0 .number - 1) (runOf sheet at k now lines 0 .session)))
             ≡ after (g .printed ++ text (runOf sheet at k now lines 0 .lines)) (printOf sheet (e .place) (e .number - 1) ws)
-        more _ = rw (x .place, x .number, x .session .reading, append-assoc) refl
+        more = rw (x .place, x .number, x .session .reading, append-assoc) refl
 
 -- the cases of a whole sheet
 module _ (sheet ws : List ℕ) (h : holds (kept (read ws))) where
   pub printed-head : (n : ℕ) → headAt sheet ≡ Refused n → Wrote ws ws (printSheet sheet (read ws) .session)
   printed-head n e =
-      rw (print-head sheet (read ws) (kept-sound (read ws) h) (head-number sheet n e .1)) (record { same-length = refl; reading = refl; past = refl })
+      rw (print-head sheet (read ws) (kept-sound (read ws) h) (head-number sheet n e .1)) (wrote-none _)
 
   pub printed-records : (first : ℕ) (after : List ℕ) → headAt sheet ≡ Behind first → Wrote ws after (printOf sheet first 0 ws .session)
       → Wrote ws after (printSheet sheet (read ws) .session)
