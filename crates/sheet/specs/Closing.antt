@@ -43,9 +43,9 @@ module _ (memory lines : List ℕ) (used : ℕ) (long : words ≤ length memory)
   unfolding lastLine
   closed-by a b p q c r = cc (p, q, r) ∙ sym (closed-room memory (linesOf lines used) (long, room))
 
-pub line-closing : (a b c : ℕ) → a ≤ 513 → b ≤ 2049 → c < 2 ^ 64 → length (line a b c) ≤ 32
+pub line-closing : (a b c : ℕ) → a ≤ 2049 → b ≤ 2049 → c < 2 ^ 64 → length (line a b c) ≤ 32
 line-closing a b c ha hb hc =
-    let x = digits-bound 2 a (omega arith) in
+    let x = digits-bound 3 a (omega arith) in
     let y = digits-bound 3 b (omega arith) in
     let z = digits-bound 19 c (omega arith) in
     let n = line-length a b c in

@@ -39,13 +39,15 @@ undelivered-links-requires c κs = search needs
 get-requires : tie.Need-get-requires
 get-requires c κs = search needs
 
-fits : (used long a b c : ℕ) → used + 32 ≤ long → a ≤ 513 → b ≤ 2049 → c < 2 ^ 64 → used + length (line a b c) ≤ long
+fits : (used long a b c : ℕ) → used + 32 ≤ long → a ≤ 2049 → b ≤ 2049 → c < 2 ^ 64 → used + length (line a b c) ≤ long
 fits used long a b c h x y z = omega (arith, line-closing a b c x y z)
 
 put-line-requires : tie.Need-put-line-requires
 put-line-requires c κs =
     let a = c .before .before .before .before .before .before .before .before .before .before .args in
-    fits (a .used) _ (c .before .before .before .live-tasks .result) (c .before .before .undelivered-links .result) (c .before .get .result) (passed (hasRoom (linesOf (a .lines .now) (a .used))) (sym (c .before .before .before .before .before .has-room .ensures) ∙ not-false _ (c .before .before .before .before .if2 .left))) (c .before .before .before .live-tasks .ensures .1) (c .before .before .undelivered-links .ensures .1) (omega arith)
+    let few = c .before .before .before .live-tasks .ensures .1 in
+    let more = c .before .before .undelivered-links .ensures .1 in
+    fits (a .used) _ _ _ _ (passed (hasRoom (linesOf (a .lines .now) (a .used))) (sym (c .before .before .before .before .before .has-room .ensures) ∙ not-false _ (c .before .before .before .before .if2 .left))) (omega (arith, few, more)) (omega (arith, few, more)) (omega arith)
 
 same-length-2 : tie.Need-same-length-2
 same-length-2 c = search needs
