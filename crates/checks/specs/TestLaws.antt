@@ -1,10 +1,10 @@
 -- From what a function answers to what a formula says, and back.
-use Prim.Native.Nat.{ℕ, suc, _+_, _-_, _≤_}
+use Prim.Native.Nat.{ℕ, _+_, _-_, _≤_}
 use mathlib.Core.Path.{_≡_, refl, sym, ap, _∙_}
 use mathlib.Core.Bool.{Bool, true, false, not}
 use native.Mathlib.Omega.{arith}
-use borrow.Author.Tests.{not-true, not-false, ltb-true, ltb-false}
-use lib.Dec.{eqb, leb, ltb}
+use borrow.Author.Tests.{not-true, not-false}
+use lib.Dec.{eqb, leb}
 use Rattle.rules.specs.Formula.{Formula, holds, test, Formula._≐_, Formula._≼_, Formula._and_, Formula._or_, Formula._then_, Formula.never}
 use Rattle.rules.specs.FormulaLaws.{Case, decide, passed, failed, passes, fails, test-and, test-or, test-then, Case.it-does, Case.it-does-not, test-same}
 
@@ -55,13 +55,6 @@ equals a b = refl
 pub at-most : (a b : ℕ) → leb a b ≡ test (a ≼ b)
 unfolding test
 at-most a b = refl
-
-pub less-than : (a b : ℕ) → ltb a b ≡ test (suc a ≼ b)
-less-than a b = go (ltb a b) refl
-  where
-    go : (r : Bool) → ltb a b ≡ r → r ≡ test (suc a ≼ b)
-    go true e = right (suc a ≼ b) (ltb-true a b e)
-    go false e = wrong (suc a ≼ b) (λ h. let l : b ≤ a = ltb-false a b e in omega arith)
 
 -- room for n more, below a limit
 pub room-for : (a n top : ℕ) → n ≤ top → leb a (top - n) ≡ test (a + n ≼ top)

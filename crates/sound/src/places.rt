@@ -1,4 +1,4 @@
-// Reading a session whose words may be any numbers. Internal: callers have shown the memory's length.
+// A payload, and the handle before another. Internal: callers have shown the memory's length.
 ghost use mathlib.Core.Path.{_≡_};
 ghost use Prim.Native.Nat.{_≤_, _-_};
 ghost use lib.ListN.{length};
