@@ -1,10 +1,12 @@
 /* The proved engine as a static library: `rt staticlib library` writes target/staticlib/liblibrary.a.
  *
  * A session is lent as 64-bit words; docs/LAYOUT.md says how many and what stands in each. The words past the layout
- * are never read or written. Nothing is kept between calls, and no call allocates. The functions may be called from
- * several threads as long as no two are lent the same words at once. Pointers are never null and aligned for their type,
- * also where `words` is 0, and `made` points outside the memory lent.
- */
+ * are never read or written. Nothing is kept between calls, and no call allocates. Any words, bytes and numbers may be
+ * lent: no function relies on a check by its caller. The functions may be called from several threads as long as no two
+ * are lent the same words or bytes at once. Pointers are never null and aligned for their type, also where a length is
+ * 0, and what they point to does not overlap.
+ *
+ * A refusal has the number of document 01 (docs/REFUSALS.md) wherever one is returned, and 0 is done. */
 #ifndef FALTXIGOR_H
 #define FALTXIGOR_H
 
@@ -15,24 +17,41 @@
 extern "C" {
 #endif
 
-/* Writes a fresh session and returns 1; returns 0 and writes nothing if the memory is too short. */
+/* Bytes of stack that are enough for a thread that makes these calls. */
+#define FALTXIGOR_STACK 65536
+
+/* Writes a fresh session. Returns the refusal: 0 done, 1 the memory is too short, and then nothing is written. */
 uint64_t faltxigor_fresh(uint64_t *memory, size_t words);
 
-/* 1 if the words are a sound session, else 0; also 0 if the memory is too short. Any words may be lent. */
+/* A question, so that its answer is no refusal: 1 if the words are a sound session, else 0; also 0 if the memory is too
+ * short. */
 uint64_t faltxigor_sound(const uint64_t *memory, size_t words);
 
 /* One operation: its code and fields, of which those past what the code has are not looked at. Returns the refusal:
  * 0 accepted, 1 the memory is too short, 2 the session is not sound, 6 to 21 as in document 01. *made is the handle or
- * link made, or 0. A refusal changes nothing in the memory and leaves 0 in *made. Any words and any numbers may be lent. */
+ * link made, or 0. A refusal changes nothing in the memory and leaves 0 in *made. The whole session is looked at in each
+ * call: for many operations take faltxigor_run. */
 uint64_t faltxigor_apply(uint64_t *memory, size_t words, uint64_t code, uint64_t f0, uint64_t f1, uint64_t f2,
                          uint64_t f3, uint64_t f4, uint64_t *made);
 
-/* The same for memory that is known to be long enough and to hold a sound session: checks 1 and 2 are skipped. On other
- * memory the behaviour is undefined. A session that came from faltxigor_fresh and has since been changed by these
- * functions alone is sound. One that was lent from elsewhere and is sound may be unsound after a call
- * (docs/DECISIONS.md, "Kept"), so it has to be asked about again. */
-uint64_t faltxigor_apply_sound(uint64_t *memory, size_t words, uint64_t code, uint64_t f0, uint64_t f1, uint64_t f2,
-                               uint64_t f3, uint64_t f4, uint64_t *made);
+/* Many operations: a sheet, which is the number 1 and then records, each a code and its fields. A number is in groups of
+ * seven bits, lowest first, the high bit set on all but the last byte, in the fewest bytes. The answer line of each
+ * record goes into `lines` behind the first *used bytes, 32 bytes at most: its number from 1, the refusal, and what was
+ * made. A session from faltxigor_fresh that was changed by these functions alone is looked at once, before the first
+ * record, and so is any other that every operation keeps sound (docs/DECISIONS.md, "Kept"); the rest at each record.
+ *
+ * Returns the refusal that ended the sheet, 0 at its end: 1 the session's memory is too short, or under 32 bytes of `lines`
+ * are free; 2 the session is not sound; 3 to 6 the sheet's bytes. 2 to 6 have their line too. The refusals of single
+ * operations, 7 to 21, are in their lines and end nothing. *used is then the length of the lines; *place the place in the
+ * sheet of the record that was not run, or its end; *number the number of the record begun last, 0 for the sheet's first
+ * number. Where 1 is met at record 0 nothing has changed; where it is met later, the records before it have been run. */
+uint64_t faltxigor_run(const uint8_t *sheet, size_t sheet_bytes, uint64_t *memory, size_t words, uint8_t *lines,
+                       size_t line_bytes, size_t *used, size_t *place, uint64_t *number);
+
+/* The line that the sheet program prints last, into `lines` behind the first *used bytes: live tasks, undelivered links,
+ * dropped. Returns the refusal: 0 done, and *used is then the length of the lines; 1 the session's memory is too short, or
+ * under 32 bytes of `lines` are free, and then nothing is written and *used stays. */
+uint64_t faltxigor_last_line(const uint64_t *memory, size_t words, uint8_t *lines, size_t line_bytes, size_t *used);
 
 #ifdef __cplusplus
 }

@@ -1,15 +1,20 @@
 #!/usr/bin/env python3
-"""mutants.py [NAME..]: wrong rules that the theorems of the crate `laws` catch.
+"""mutants.py [NAME..]: wrong rules, each with a computed counterexample to demand 3.
 
-`rt must-fail` edits one crate and asks whether that crate is still proved; these edits are to `rules`, and the question
-is whether `laws`, which stands on it, is. Each mutant is made in a copy of the tree, without the table of edges, whose
-computed cases would refuse many of them before `laws` is reached, and with only that part of `laws` that the file of a
-named theorem needs: where that is refused, so is the whole. A mutant counts as caught if `rules` is still proved, `laws`
-is refused, and no refusal is about a name that is not there: so a proof fails, since what it shows is no longer so.
-Prints a line a mutant with the first refusal's file and declaration, and last `N passed, M failed`. It takes a minute or two
-where `rules` and `laws` were proved before.
+A mutant is an edit of one rule, with a short list of calls. Under the mutant a claim about that list computes to false: a
+clause of demand 3 (crates/rules/specs/Demand.antt), or that the session after the list is sound (`soundUsed`), where the rule of
+soundness that fails is named too. Under the rules it computes to true. Both are shown by `refl`, in a copy of the definitions
+with the edit and in one without. From the computed fact, tests/mutants/Counterexample.antt.txt proves under the mutant that
+demand 3 does not hold of every list, `((os : List Operation) → Demand3 os) → ⊥`: what is shown false is the theorem, and not
+only its proof. Harmless edits, which say the same in other words, are tried in the same way: there the claim of their mutant
+must compute to true.
+
+The copies have the files that Demand.antt needs and the types of the code, so that no edit is refused for something else.
+Prints a line an edit, and last `N passed, M failed`. It takes a minute on two cores.
 """
+import concurrent.futures
 import os
+import queue
 import re
 import shutil
 import subprocess
@@ -18,156 +23,287 @@ import tempfile
 import time
 
 ROOT = os.path.dirname(os.path.dirname(os.path.abspath(__file__)))
-LAWS = os.path.join(ROOT, 'crates', 'laws', 'specs')
+RULES = os.path.join(ROOT, 'crates', 'rules')
+COUNTEREXAMPLE = os.path.join(ROOT, 'tests', 'mutants', 'Counterexample.antt.txt')
 
-# name, the file of `laws` that has the theorem, the file of `rules`, old text, new text
+# Main is granted and starts; a task 4 without pre-slots, with one, with two; the same with an output event 5, a finish task.
+RUNS = [(10, 2), (11, 2)]
+NO_SLOT, ONE_SLOT, TWO_SLOTS = [RUNS + [(1, 2, n), (2, 2, 3, 17, 0, 0)] for n in (0, 1, 2)]
+FINISH = RUNS + [(1, 2, 0), (2, 2, 3, 17, 1, 1), (10, 4), (11, 4)]
+# Sticky 3 and idempotent 4; once 3 and a task 5 whose slot waits for it; two events of type once, 4 waiting for 3.
+STICKY = RUNS + [(3, 2, 3), (3, 2, 2)]
+LINKED = RUNS + [(3, 2, 1), (1, 2, 1), (2, 2, 4, 17, 0, 0), (5, 2, 3, 5, 0, 1)]
+CHAINED = RUNS + [(3, 2, 1), (3, 2, 1), (5, 2, 3, 4, 0, 1)]
+
+# name; the claim that fails; the calls; the file of `rules`, old text, new text. The claims, with what they are about:
+# sound, the rule that fails, a live task that lacks nothing; starts-once, starts-ready, stuck: the task; finish-fires: the
+# call and the task; bounded: the further moves.
 MUTANTS = [
-    ('grant-checks-one-slot', 'Grant', 'Checks',
-     '(each (s TaskSlots t) (λ j. slotFree t (at t j)))', '(each 1 (λ j. slotFree t (at t j)))'),
-    ('grant-holds-one-slot', 'Grant', 'Effects',
-     '((i / 16 ≐ t) and (1 ≼ s SlotPayload i)) held', '((i ≐ at t 0) and (1 ≼ s SlotPayload i)) held'),
-    ('end-keeps-holds', 'End', 'Effects',
-     'let r = put (letGo s t (λ k. 0 ≐ 0)) TaskState t ended in', 'let r = put s TaskState t ended in'),
-    ('finish-waits-for-children-alone', 'End', 'Effects', 'and not (busy s (e - 1))',
-     'and each (s Objects 0 + 1) '
-     '(λ h. not (isKind s task h and s TaskState h ≼ running and s TaskCreator h ≐ e - 1))'),
-    ('delivery-leaves-the-slot-unsatisfied', 'Deliver', 'Effects', '(satisfy r d j (s EventPayload (s LinkSource l)))',
-     '(choose (isKind s task d) r (satisfy r d j (s EventPayload (s LinkSource l))))'),
-    ('link-stays-ready', 'Deliver', 'Effects', 'put s LinkState l delivered', 'put s LinkState l ready'),
-    ('drop-counts-twice', 'Deliver', 'Effects', '(s Dropped 0 + 1)', '(s Dropped 0 + 2)'),
-    # a session stays sound under this one; what it breaks is the falling count, as such a start takes two steps at once
-    ('start-from-resolved', 'Falling', 'Checks', '(s TaskState t ≐ granted) ∷ []', '(s TaskState t ≐ resolved) ∷ []'),
-    ('destroyed-event-drops-ready-links', 'DestroyEvent', 'Effects',
-     '(s LinkState l ≐ linkOpen)) cut', '(s LinkState l ≼ ready)) cut'),
-    ('second-claim-replaces', 'Dependence', 'Checks',
-     '(isKind s task d then s SlotMode (at d j) ≐ 0)', '(isKind s task d then s SlotMode (at d j) ≼ 4)'),
-    ('fired-links-stay-open', 'SatisfyEvent', 'Effects',
-     'fires (s LinkSource l)) ready (s LinkState l)', 'fires (s LinkSource l)) linkOpen (s LinkState l)'),
-    ('doomed-blocks-stay', 'Release', 'Effects',
-     'doomed and not (isHeld s b)) blockDestroyed', 'doomed and not (isHeld s b)) doomed'),
-    ('book-does-not-count-deliveries', 'RelatedDeliver', 'Book',
+    # a start that leaves granted: here it is taken twice, and below without end
+    ('start-is-repeated', ('starts-once', 2), RUNS + [(11, 2)],
+     'Effects', 'start s t = put s TaskState t running', 'start s t = put s TaskState t (s TaskState t)'),
+    ('start-while-waiting', ('starts-ready', 4), ONE_SLOT,
+     'Checks', '(s TaskState t ≐ granted) ∷ []', '(s TaskState t ≼ granted) ∷ []'),
+    ('second-claim-replaces', ('starts-ready', 4), ONE_SLOT + [(5, 2, 0, 4, 0, 1), (5, 2, 0, 4, 0, 1), (10, 4)],
+     'Checks', '(isKind s task d then s SlotMode (at d j) ≐ 0)', '(isKind s task d then s SlotMode (at d j) ≼ 4)'),
+    ('book-does-not-count-deliveries', ('starts-ready', 5), LINKED + [(6, 2, 3, 0, 0), (9, 1), (10, 5)],
+     'Book',
      'enterDeliver b l = satisfies (enter b Struck l 1) (b LinkTarget l) (b LinkSlot l) (b Has (b LinkSource l))',
      'enterDeliver b l = enter b Struck l 1'),
+    ('finish-waits-for-children-alone', ('finish-fires', (12, 4, 0), 4),
+     FINISH + [(2, 4, 3, 17, 0, 0), (10, 6), (11, 6), (2, 6, 3, 17, 0, 0), (12, 6, 0)],
+     'Effects', 'and not (busy s (e - 1))',
+     'and each (s Objects 0 + 1) '
+     '(λ h. not (isKind s task h and s TaskState h ≼ running and s TaskCreator h ≐ e - 1))'),
+    ('link-stays-ready', ('bounded', [(9, 1)] * 4), STICKY + [(6, 2, 3, 0, 0), (5, 2, 3, 4, 0, 1), (9, 1)],
+     'Effects', 'put s LinkState l delivered', 'put s LinkState l ready'),
+    ('start-leaves-granted', ('bounded', [(11, 2)] * 4), [(10, 2)],
+     'Effects', 'start s t = put s TaskState t running', 'start s t = put s TaskState t (s TaskState t)'),
+    # grants that never come, from task 3 on
+    ('no-grant-but-to-main', ('stuck', 4), NO_SLOT + [(12, 2, 0)],
+     'Checks', 'check 11 (remains t) ∷ check 16 (s TaskState t ≐ resolved)',
+     'check 11 (not (3 ≼ t)) ∷ check 16 (s TaskState t ≐ resolved)'),
+    # what is granted never starts
+    ('start-from-resolved', ('stuck', 2), [(10, 2)],
+     'Checks', '(s TaskState t ≐ granted) ∷ []', '(s TaskState t ≐ resolved) ∷ []'),
+    ('count-is-not-kept', ('sound', 'counts', 2), RUNS + [(1, 2, 0)],
+     'Effects', 'new s h kind = put (put s Objects 0 h) Kind h kind', 'new s h kind = put (put s Objects 0 0) Kind h kind'),
+    ('two-holds-at-creation', ('sound', 'objects', 2), RUNS + [(4, 2, 2)],
+     'Checks', 'check 7 (hold ≼ 1)', 'check 7 (hold ≼ 2)'),
+    ('release-empties-the-slot', ('sound', 'roots', 2), RUNS + [(7, 2, 1)],
+     'Effects', 'which (s SlotPayload i)) satisfied (s SlotMark i)', 'which (s SlotPayload i)) 0 (s SlotMark i)'),
+    ('running-task-destroyed', ('sound', 'creators', 2), NO_SLOT + [(10, 4), (11, 4), (2, 4, 3, 17, 0, 0), (8, 2, 4)],
+     'Checks', '(isKind s task h then s TaskState h ≼ resolved)', '(isKind s task h then s TaskState h ≼ running)'),
+    ('finish-never-fires', ('sound', 'outputs', 2), FINISH + [(12, 4, 0)],
+     'Effects', 'fireFinished (choose (s TaskOutput t ≐ 1 and s TaskFinish t ≐ 0) (fireOne r (t + 1) b) r)',
+     'choose (s TaskOutput t ≐ 1 and s TaskFinish t ≐ 0) (fireOne r (t + 1) b) r'),
+    ('delivery-leaves-the-slot-unsatisfied', ('sound', 'slots', 2), LINKED + [(6, 2, 3, 0, 0), (9, 1)],
+     'Effects', '(satisfy r d j (s EventPayload (s LinkSource l)))',
+     '(choose (isKind s task d) r (satisfy r d j (s EventPayload (s LinkSource l))))'),
+    ('fired-links-stay-open', ('sound', 'links', 2), CHAINED + [(6, 2, 3, 0, 0)],
+     'Effects', 'fires (s LinkSource l)) ready (s LinkState l)', 'fires (s LinkSource l)) linkOpen (s LinkState l)'),
+    ('destroyed-event-drops-ready-links', ('sound', 'links', 2),
+     STICKY + [(5, 2, 3, 4, 0, 1), (6, 2, 3, 0, 0), (8, 2, 3)],
+     'Effects', '(s LinkState l ≐ linkOpen)) cut', '(s LinkState l ≼ ready)) cut'),
+    ('second-link-to-a-slot', ('sound', 'oneLink', 2), LINKED + [(5, 2, 3, 5, 0, 1)],
+     'Checks', '(isKind s task d then s SlotMode (at d j) ≐ 0)', '(isKind s task d then s SlotMode (at d j) ≼ 4)'),
+    ('grant-holds-one-slot', ('sound', 'states', 2), TWO_SLOTS + [(5, 2, 1, 4, 0, 2), (5, 2, 1, 4, 1, 2), (10, 4)],
+     'Effects', '((i / 16 ≐ t) and (1 ≼ s SlotPayload i)) held', '((i ≐ at t 0) and (1 ≼ s SlotPayload i)) held'),
+    ('end-keeps-holds', ('sound', 'states', 2), ONE_SLOT + [(5, 2, 1, 4, 0, 2), (10, 4), (11, 4), (12, 4, 0)],
+     'Effects', 'let r = put (letGo s t (λ k. 0 ≐ 0)) TaskState t ended in', 'let r = put s TaskState t ended in'),
+    ('doomed-blocks-stay', ('sound', 'blocks', 2),
+     ONE_SLOT + [(4, 2, 0), (5, 2, 5, 4, 0, 2), (10, 4), (11, 4), (8, 2, 5), (12, 4, 0)],
+     'Effects', 'doomed and not (isHeld s b)) blockDestroyed', 'doomed and not (isHeld s b)) doomed'),
+    ('grant-checks-one-slot', ('sound', 'compatible', 2), TWO_SLOTS + [(5, 2, 0, 4, 0, 1), (5, 2, 1, 4, 1, 3), (10, 4)],
+     'Checks', '(each (s TaskSlots t) (λ j. slotFree t (at t j)))', '(each 1 (λ j. slotFree t (at t j)))'),
+    ('latch-fires-at-1', ('sound', 'latches', 2), RUNS + [(3, 2, 4), (6, 2, 3, 0, 1)],
+     'Effects', 'choose (n ≐ evenTally) (fireOne r e 0) r', 'choose (n ≐ evenTally + 1) (fireOne r e 0) r'),
+    ('drop-counts-twice', ('sound', 'dropped', 2),
+     RUNS + [(3, 2, 3), (3, 2, 3), (6, 2, 3, 0, 0), (6, 2, 4, 0, 0), (5, 2, 3, 4, 0, 1), (9, 1)],
+     'Effects', '(s Dropped 0 + 1)', '(s Dropped 0 + 2)'),
 ]
 
-REFUSAL = re.compile(r'crates/laws/specs/(\w+)\.antt:(\d+):\d+: ')
-DECLARATION = re.compile(r'(?:  )?(?:pub |abbrev |unfoldable )*(?:record |data )?([^\s:(){}]+) .*:')
-MISSING = re.compile(r'that can be named from here|error: Scope|error: `[^`]+` is not in scope')
+# name of the mutant whose claim is tried, old text (in the mutant's file), new text that says the same
+HARMLESS = [
+    ('drop-counts-twice', '(s Dropped 0 + 1)', '(1 + s Dropped 0)'),
+    ('grant-holds-one-slot', '((i / 16 ≐ t) and (1 ≼ s SlotPayload i)) held', '((1 ≼ s SlotPayload i) and (i / 16 ≐ t)) held'),
+    ('grant-checks-one-slot', '(each (s TaskSlots t) (λ j. slotFree t (at t j)))', '(each 16 (λ j. slotFree t (at t j)))'),
+    ('start-from-resolved', '(s TaskState t ≐ granted) ∷ []', '(granted ≐ s TaskState t) ∷ []'),
+]
+
+# of each claim: the claim itself; what is computed with it; the law of Counterexample.antt.txt that refutes demand 3
+CLAIMS = {
+    'sound': ('soundUsed (S os)', ['Able os {1}', 'test ({0} (S os)) ≡ false'], 'unsound os {1} steadily also0 fact'),
+    'starts-once': ('startsOnce os {0}', [], 'starts-twice os {0} steadily fact'),
+    'starts-ready': ('startsReady os {0}', ['Able os 2'], 'starts-unready os {0} steadily also0 fact'),
+    'finish-fires': ('firesDone os ({0}) {1}', ['Able os 2'], 'fires-early os ({0}) {1} steadily also0 fact'),
+    'bounded': ('bounded os ({0})', ['steady (S os) (B os) ({0}) ≡ true', 'test (allMoves ({0})) ≡ true'],
+                'moves-on os ({0}) steadily also0 also1 fact'),
+    'stuck': ('unstuck os {0}', [], 'stuck-able os {0} steadily fact'),
+}
+
+NEEDED = re.compile(r'^(?:unfoldable |pub )*use Rattle\.rules\.specs\.(\w+)\.', re.M)
+UNFOLDABLE = re.compile(r'^ *unfoldable pub (?:use \S+\.\{(\w+)\}|(\S+) :)', re.M)
+FUNCTION = re.compile(r'^(?:pub )?fn .*?^}\n', re.M | re.S)
 
 
-def copy_of_tree(into):
-    """A copy of the crates with what was proved of them, and without the table of edges."""
-    shutil.copy(os.path.join(ROOT, 'crates.txt'), into)
-    for name in ['crates', os.path.join('target', 'rlib'), os.path.join('target', 'stamp')]:
-        if os.path.exists(os.path.join(ROOT, name)):
-            shutil.copytree(os.path.join(ROOT, name), os.path.join(into, name))
-    specs = os.path.join(into, 'crates', 'rules', 'specs')
-    os.remove(os.path.join(specs, 'Edges.antt'))
-    edit(os.path.join(specs, 'Lib.antt'), 'pub mod Edges\n', '')
-
-
-def edit(path, old, new):
-    """Puts new for old, which must stand there once; hands back the text as it was."""
+def text_of(path):
     with open(path, encoding='utf-8') as file:
-        text = file.read()
-    if text.count(old) != 1:
-        raise SystemExit('%s: `%s` stands there %d times' % (os.path.basename(path), old, text.count(old)))
-    write(path, text.replace(old, new))
-    return text
+        return file.read()
 
 
 def write(path, text):
+    os.makedirs(os.path.dirname(path), exist_ok=True)
     with open(path, 'w', encoding='utf-8') as file:
         file.write(text)
 
 
-def text_of(module):
-    with open(os.path.join(LAWS, module + '.antt'), encoding='utf-8') as file:
-        return file.read()
+def spec(name):
+    return os.path.join(RULES, 'specs', name + '.antt')
 
 
 def modules():
-    """The files of `laws`, in the order of its Lib.antt."""
-    return re.findall(r'mod (\w+)', text_of('Lib'))
-
-
-def needed(module):
-    """A file of `laws` and those that it needs."""
-    wanted, found = [module], set()
+    """The files of `rules` that demand 3 needs, and the laws of formulas, in the order of its Lib.antt."""
+    wanted, found = ['Demand', 'FormulaLaws'], set()
     while wanted:
         name = wanted.pop()
-        if name not in found:
+        if name not in found and os.path.exists(spec(name)):
             found.add(name)
-            wanted += re.findall(r'Rattle\.laws\.specs\.(\w+)', text_of(name))
-    return [name for name in modules() if name in found]
+            wanted += NEEDED.findall(text_of(spec(name)))
+    return [name for name in re.findall(r'mod (\w+)', text_of(spec('Lib'))) if name in found]
 
 
-def lay_out(folder, names):
-    """Puts those files of `laws`, and no others, into the copy."""
-    specs = os.path.join(folder, 'crates', 'laws', 'specs')
-    shutil.rmtree(specs)
-    os.mkdir(specs)
-    for name in names:
-        shutil.copy(os.path.join(LAWS, name + '.antt'), specs)
-    write(os.path.join(specs, 'Lib.antt'), ''.join('pub mod %s\n' % name for name in names))
+def copy_of_session(folder):
+    """The crate that the definitions stand on, with what was proved of it."""
+    shutil.copytree(os.path.join(ROOT, 'crates', 'session'), os.path.join(folder, 'crates', 'session'))
+    if os.path.exists(os.path.join(ROOT, 'target', 'stamp', 'session')):
+        shutil.copytree(os.path.join(ROOT, 'target', 'rlib', 'session.rlib'), os.path.join(folder, 'target', 'rlib', 'session.rlib'))
+        write(os.path.join(folder, 'target', 'stamp', 'session'), text_of(os.path.join(ROOT, 'target', 'stamp', 'session')))
 
 
-def declaration(module, line):
-    """The declaration of a file of `laws` that a line stands in."""
-    for text in reversed(text_of(module).splitlines()[:line]):
-        found = DECLARATION.match(text)
-        if found and found.group(1) not in ['--', 'use']:
-            return found.group(1)
-    return '?'
+def copy_of_rules(folder):
+    """The definitions in a repository of their own: the files that demand 3 needs, and of the code the types."""
+    crates = os.path.join(folder, 'crates')
+    shutil.copytree(os.path.join(RULES, 'src'), os.path.join(crates, 'rules', 'src'))
+    lib = text_of(os.path.join(RULES, 'src', 'lib.rt'))
+    write(os.path.join(crates, 'rules', 'src', 'lib.rt'), FUNCTION.sub('', re.sub(r'ghost use .*\n', '', lib)))
+    for name in modules():
+        write(os.path.join(crates, 'rules', 'specs', name + '.antt'), text_of(spec(name)))
+    write(os.path.join(crates, 'rules', 'specs', 'Lib.antt'), ''.join('pub mod %s\n' % name for name in modules()))
+    write(os.path.join(folder, 'crates.txt'), 'session:\nrules: session\nwitness: rules session\n')
+    witness = os.path.join(crates, 'witness')
+    write(os.path.join(witness, 'src', 'lib.rt'), 'pub const FACTS: u64 = 1;\n')
+    write(os.path.join(witness, 'specs', 'Lib.antt'), 'pub mod Counterexample\npub mod Facts\n')
+    write(os.path.join(witness, 'specs', 'Counterexample.antt'), text_of(COUNTEREXAMPLE))
 
 
-def verdict(output, status):
-    """Whether the mutant is caught, and by what."""
-    if not re.search(r'^rt: rules proved', output, re.M):
-        return False, 'rules itself is refused'
-    if status == 0:
-        return False, 'laws is proved all the same'
-    refusals = REFUSAL.findall(output)
-    if status != 1 or not refusals:
-        return False, 'laws is neither proved nor refused (rt ended with %d)' % status
-    if MISSING.search(output):
-        return False, 'a name is missing'
-    module, line = refusals[0][0], int(refusals[0][1])
-    return True, 'refused in laws: %s.antt, `%s`' % (module, declaration(module, line))
+def operation(call):
+    return 'call %d (%s)' % (call[0], ''.join('%d ∷ ' % field for field in call[1:]) + '[]')
 
 
-def check_laws(folder, names):
-    """What `rt check` says of those files of `laws`, and its exit status."""
-    lay_out(folder, names)
-    run = subprocess.run(['rt', 'check', 'laws'], cwd=folder, env=dict(os.environ, RT_CUT='0'),
-                         stdout=subprocess.PIPE, stderr=subprocess.STDOUT, text=True)
-    return run.stdout, run.returncode
+def listed(calls):
+    return ''.join(operation(call) + ' ∷ ' for call in calls) + '[]'
 
 
-def tried(folder, theorem, module, old, new):
-    """Whether a mutant is caught, and by what."""
-    path = os.path.join(folder, 'crates', 'rules', 'specs', module + '.antt')
-    text = edit(path, old, new)
-    output, status = check_laws(folder, needed(theorem))
+def argument(value):
+    """A claim's argument as antt: a rule or a task, a call, a list of calls."""
+    return listed(value) if isinstance(value, list) else operation(value) if isinstance(value, tuple) else str(value)
+
+
+def head():
+    """The head of the file of facts: all that a call computes with is unfolded."""
+    uses, unfolded = [], ['put', 'change']
+    for name in modules():
+        names = [a or b for a, b in UNFOLDABLE.findall(text_of(spec(name)))]
+        if names and name != 'Demand':
+            uses.append('use Rattle.rules.specs.%s.{%s}' % (name, ', '.join(names)))
+            unfolded += names
+    own = ['leaves', 'entry', 'entries', 'takes', 'steady']
+    claims = ['call', 'S', 'B', 'Steady', 'Able', 'Demanded', 'allMoves']
+    claims += re.findall(r'^pub ([\w-]+) :', text_of(COUNTEREXAMPLE), re.M)
+    claims += [claim[0].split()[0] for name, claim in CLAIMS.items() if name != 'sound']
+    rules = sorted({mutant[1][1] for mutant in MUTANTS if mutant[1][0] == 'sound'})
+    return '\n'.join([
+        'use Prim.Native.Nat.{ℕ}', 'use mathlib.Core.Path.{_≡_, refl}', 'use mathlib.Core.Bool.{true, false}',
+        'use mathlib.Core.List.{List, [], _∷_}', 'use Rattle.session.specs.Table.{put, change}',
+        'use Rattle.rules.specs.declared.Operation.{Operation}'] + uses + [
+        'use Rattle.rules.specs.Sound.{%s}' % ', '.join(rules),
+        'use Rattle.witness.specs.Counterexample.{%s}' % ', '.join(own + claims), '',
+        'unfoldable computed : ℕ', 'unfolding ' + ' '.join(unfolded + own), 'computed = 0', ''])
+
+
+def facts(mutant, verdict, mark=''):
+    """What is computed of a mutant's list: under the rules (true) the claim alone; under the mutant (false) what refutes
+    demand 3 with it. The mark tells the lists of one file apart."""
+    _, (name, *about), calls = mutant[:3]
+    claim, computed, law = CLAIMS[name]
+    stated = [('fact', 'test (%s) ≡ %s' % (claim, verdict))]
+    if verdict == 'false':
+        stated += [('steadily', 'Steady os')] + [('also%d' % i, text) for i, text in enumerate(computed)]
+    lines = ['', 'os%s : List Operation' % mark, 'os%s = %s' % (mark, listed(calls))]
+    words = [argument(value) for value in about]
+    for title, text in stated:
+        text = re.sub(r'\bos\b', 'os' + mark, text.format(*words))
+        lines += ['', '%s%s : %s' % (title, mark, text), 'unfolding computed os' + mark, title + mark + ' = refl']
+    if verdict == 'false':
+        lines += ['', 'refuted : Demanded → ⊥', 'refuted = ' + law.format(*words)]
+    return '\n'.join(lines) + '\n'
+
+
+def proved(folder, text):
+    """Whether the facts are proved of the rules as they stand in the copy; else what was said."""
+    write(os.path.join(folder, 'crates', 'witness', 'specs', 'Facts.antt'), head() + text)
+    run = subprocess.run(['rt', 'check', 'witness'], cwd=folder, stdout=subprocess.PIPE, stderr=subprocess.STDOUT, text=True)
+    errors = re.findall(r'^\S*specs/(\S+: error: .*)', run.stdout, re.M)
+    return run.returncode == 0, (errors or run.stdout.splitlines())[0]
+
+
+def tried(folder, mutant, old, new, verdict):
+    """Whether the facts of a mutant are proved under an edit of its file."""
+    path = os.path.join(folder, 'crates', 'rules', 'specs', mutant[3] + '.antt')
+    text = text_of(path)
+    if text.count(old) != 1:
+        return False, '`%s` stands %d times in %s.antt' % (old, text.count(old), mutant[3])
+    write(path, text.replace(old, new))
+    answer = proved(folder, facts(mutant, verdict))
     write(path, text)
-    return verdict(output, status)
+    return answer
+
+
+def broken(mutant):
+    """What a mutant breaks, in words."""
+    name, *about = mutant[1]
+    return '`%s` of a sound session' % about[0] if name == 'sound' else 'the clause `%s` of demand 3' % name
+
+
+def edits(names):
+    """Each edit to try: its line when it passes, when it fails, and what it is."""
+    for mutant in MUTANTS:
+        if not names or mutant[0] in names:
+            yield ('%s: caught, %s is false (calls: %d)' % (mutant[0], broken(mutant), len(mutant[2])),
+                   '%s: NOT caught' % mutant[0], (mutant, mutant[4], mutant[5], 'false'))
+    for name, old, new in HARMLESS:
+        if not names or name in names:
+            mutant = next(mutant for mutant in MUTANTS if mutant[0] == name)
+            yield ('%s, written `%s`: harmless, %s stays true' % (name, new, broken(mutant)),
+                   '%s, written `%s`: taken for a mutant' % (name, new), (mutant, old, new, 'true'))
+
+
+def tries(names):
+    """All that is tried: the line of each when it holds, when it does not, and what it is, of a copy."""
+    chosen = [mutant for mutant in MUTANTS if not names or mutant[0] in names]
+    claims = ''.join(facts(mutant, 'true', str(i)) for i, mutant in enumerate(chosen))
+    yield 'the rules: every claim is true', 'the rules: a claim is NOT shown true', lambda folder: proved(folder, claims)
+    for good, bad, edit in edits(names):
+        yield good, bad, lambda folder, edit=edit: tried(folder, *edit)
+
+
+def copies(folder, count):
+    """So many copies of the definitions, for as many tries at a time."""
+    free = queue.Queue()
+    for name in range(count):
+        copy = os.path.join(folder, str(name))
+        copy_of_session(copy)
+        copy_of_rules(copy)
+        free.put(copy)
+    return free
 
 
 def main():
     passed = failed = 0
-    with tempfile.TemporaryDirectory() as folder:
-        copy_of_tree(folder)
-        if check_laws(folder, needed('Release'))[1] != 0:
-            print('the copy is refused without any edit\n0 passed, 1 failed')
-            return 1
-        for name, *mutant in MUTANTS:
-            if sys.argv[1:] and name not in sys.argv[1:]:
-                continue
-            began = time.time()
-            caught, why = tried(folder, *mutant)
-            passed, failed = passed + caught, failed + (not caught)
-            word = 'caught' if caught else 'NOT caught'
-            print('%s: %s, %s (%d s)' % (name, word, why, time.time() - began), flush=True)
+    with tempfile.TemporaryDirectory() as folder, concurrent.futures.ThreadPoolExecutor(2) as pool:
+        free = copies(folder, 2)
+
+        def told(entry):
+            good, bad, test = entry
+            copy, began = free.get(), time.time()
+            holds, why = test(copy)
+            free.put(copy)
+            return holds, '%s (%d s)' % (good if holds else '%s: %s' % (bad, why), time.time() - began)
+
+        for holds, line in pool.map(told, tries(sys.argv[1:])):
+            passed, failed = passed + holds, failed + (not holds)
+            print(line, flush=True)
     print('%d passed, %d failed' % (passed, failed))
     return 1 if failed or not passed else 0
 

@@ -25,6 +25,8 @@ TEXTS = [
     (b"1\n\n\n+2", b"line 4\n"),
     (b"1 " * 131072, bytes([1]) * 131072),
     (b"1 " * 131072 + b"1", b"more than 262144 bytes\n"),
+    (b"\n" * 262143 + b"x", b"line 262144\n"),
+    (b"x" * 300000, b"more than 262144 bytes\n"),
 ]
 
 
@@ -71,7 +73,9 @@ def text_of(data):
 
 
 def run(program, data):
-    return subprocess.run([program], input=data, stdout=subprocess.PIPE, timeout=sheets.SECONDS, check=True).stdout
+    """What the program writes to descriptors 1 and 2."""
+    ran = subprocess.run([program], input=data, capture_output=True, timeout=sheets.SECONDS, check=True)
+    return ran.stdout, ran.stderr
 
 
 def main():
@@ -86,7 +90,7 @@ def main():
         text, readable = text_of(data)
         checks += [(path.name, to_text, data, text), (path.name, to_sheet, text, readable)]
     for name, program, given, wanted in checks:
-        if run(program, given) == wanted:
+        if run(program, given) == (wanted, b""):
             passed += 1
         else:
             failed += 1

@@ -13,7 +13,7 @@ use Rattle.rules.specs.Sound.{soundUsed}
 use Rattle.rules.specs.Checks.{refusal}
 use Rattle.rules.specs.Effects.{new, newTemplate, newEvent, newTask, makeTask, newBlock, fire, fireOne, satisfySlot, tally, satisfyEvent, satisfy, claim, newLink, depend, buryDoomed, letGo, release, destroyEvent, fireFinished, destroyTask, destroyBlock, destroy, drops, deliver, grant, start, end}
 use Rattle.rules.specs.Step.{rules, freshSession, answer, after, outcome, arg}
-use Rattle.rules.specs.Book.{Book, opening, entered, enter, enterObject, enterTask, enterLink, satisfies, strike, enterDestroy, enterDeliver, enterEnd, live, liveTasks, undeliveredLinks, done, Column.Kind as BookKind, Column.Objects as BookObjects, Column.Links as BookLinks, Column.Times, Column.Brought, Column.Has, Column.Starts, Column.Ended, Column.Count, Column.Finish, Column.Output, Column.Destroyed, Column.Struck}
+use Rattle.rules.specs.Book.{Book, opening, entered, enter, enterObject, enterTask, enterLink, satisfies, strike, enterDestroy, enterDeliver, enterEnd, madeBy, live, liveTasks, undeliveredLinks, done, Column.Kind as BookKind, Column.Objects as BookObjects, Column.Links as BookLinks, Column.Times, Column.Brought, Column.Has, Column.Starts, Column.Ended, Column.Count, Column.Finish, Column.Output, Column.Destroyed, Column.Struck}
 
 -- a call and its answer: the refusal (0 if accepted), and the handle or link made
 pub record Line : Type 0 where
@@ -135,7 +135,7 @@ related s b =
 
 -- demand 3 along a list that ends where nothing moves
 unfoldable pub demandAlong : Session → Book → List Line → Bool
-unfolding computed total opening entered enter enterObject enterTask enterLink satisfies strike enterDestroy enterDeliver enterEnd
+unfolding computed total madeBy opening entered enter enterObject enterTask enterLink satisfies strike enterDestroy enterDeliver enterEnd
 demandAlong s b [] = test (related s b and still s and stuck b)
 demandAlong s b (l ∷ ls) =
     elim (test (answers s l)) [

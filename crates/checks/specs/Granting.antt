@@ -1,16 +1,16 @@
 -- What a grant looks at: the task as a record, and the holds that conflict with its pre-slots.
-use Prim.Native.Nat.{ℕ, zero, suc, _+_, _*_, _≤_, _<_}
+use Prim.Native.Nat.{ℕ, zero, suc, _+_, _-_, _<_}
 use mathlib.Core.Path.{_≡_}
 use mathlib.Core.List.{List, [], _∷_, _++_}
 use native.Mathlib.Numerals.{add-one}
 use lib.ListN.{length, set, take}
 use lib.Seq.{take-suc-set}
 use Rattle.session.specs.Table.{Session, at}
-use Rattle.session.specs.declared.Field.the-variants.{Objects, TaskState, TaskCreator, TaskSlots, TaskFinish, TaskOutput, BlockCreator, BlockHeld, SlotMode, SlotMark, SlotPayload}
-use Rattle.session.specs.Names.{granted, running, held, modeRW}
+use Rattle.session.specs.declared.Field.the-variants.{TaskState, TaskCreator, TaskSlots, TaskFinish, TaskOutput, BlockCreator, BlockHeld, SlotMode, SlotMark, SlotPayload}
+use Rattle.session.specs.Names.{held, modeRW}
 use Rattle.rules.specs.declared.Slot.{Slot}
 use Rattle.rules.specs.declared.Task.{Task}
-use Rattle.rules.specs.Formula.{Formula, holds, not, Formula._≐_, Formula._≼_, Formula._and_, Formula._or_, Formula.each, Formula.some}
+use Rattle.rules.specs.Formula.{Formula, not, Formula._≐_, Formula._and_, Formula._or_, Formula.each, Formula.some}
 use Rattle.rules.specs.Reading.{conflict}
 use Rattle.rules.specs.Checks.{orNull, remains, slotFree}
 
@@ -39,24 +39,6 @@ pub upTo-more : {A : Type 0} (l : List A) (j : ℕ) (f : ℕ → A) → j < leng
 unfolding upTo
 upTo-more l j f h e = rw (add-one, take-suc-set l j (f j), e)
 
--- a task that may hold blocks by its slots
-abbrev pub isHolder : Session → ℕ → Formula
-isHolder s h = s TaskState h ≐ granted or s TaskState h ≐ running
-
--- the slot at place k is somebody's and holds its block
-abbrev pub isHold : Session → ℕ → Formula
-isHold s k = suc k ≼ 16 * (s Objects 0 + 1) and s SlotMark k ≐ held
-
--- from a on to r, without r, the formula holds nowhere
-pub record Passed (f : ℕ → Formula) (a r : ℕ) : Type 0 where
-  pub from : a ≤ r
-  pub none : (i : ℕ) → i < r → a ≤ i → holds (f i) → ⊥
-
--- the next hold from place k on is not before r; and it is at k, if r is k
-pub record HoldFrom (s : Session) (k r : ℕ) : Type 0 where
-  pub passed : Passed (isHold s) k r
-  pub here : r ≡ k → s SlotMark k ≡ held
-
 -- the mode that conflicts with none
 abbrev pub modeRO : ℕ
 modeRO = 1
@@ -77,8 +59,9 @@ abbrev pub makerClash : Session → ℕ → Slot → Formula
 makerClash s t p =
     not (p .payload ≐ 0) and s BlockHeld (p .payload) ≐ 1 and not (s BlockCreator (p .payload) ≐ t) and conflict (p .mode) modeRW
 
-abbrev pub makersClash : Session → ℕ → Formula
-makersClash s t = some (s TaskSlots t) (λ j. makerClash s t (slotAt s (at t j)))
+-- what pre-slot p of t asks for conflicts with the hold at place k; place 0 is no task's, and stands for the hold from creation
+abbrev pub holdClash : Session → ℕ → Slot → ℕ → Formula
+holdClash s t p k = k ≐ 0 and makerClash s t p or not (k ≐ 0) and s SlotMark k ≐ held and clash p (slotAt s k)
 
 -- check 17, "A pre-slot's block is doomed or destroyed"
 abbrev pub blocksRemain : Session → ℕ → Formula

@@ -1,7 +1,8 @@
--- How far the scan of a grant has come: over the places of slots, and for one that holds over the pre-slots.
+-- How far the scan of a grant has come: over the pre-slots, and for one that claims a block over the holds.
 use Prim.Native.Nat.{ℕ, zero, suc, _+_, _*_, _-_, _/_, _%_, _≤_, _<_}
-use mathlib.Core.Path.{_≡_, refl, ap, subst, _∙_}
+use mathlib.Core.Path.{_≡_, refl, sym, ap, subst, _∙_}
 use mathlib.Core.List.{List, [], _∷_, _++_}
+use mathlib.Core.Bool.{Bool}
 use mathlib.Core.Logic.{_⊎_, inl, inr}
 use native.Mathlib.Omega.{arith}
 use native.Mathlib.Decide.{decLt}
@@ -9,17 +10,18 @@ use borrow.Author.Count.{below-more}
 use lib.ListN.{length, getD, length-append, List·getD-append}
 use lib.Seq.{getD-at}
 use Rattle.session.specs.Table.{Session, at}
-use Rattle.session.specs.declared.Field.the-variants.{Objects, TaskState, TaskSlots, SlotMode, SlotPayload}
-use Rattle.session.specs.Names.{resolved, granted, running}
+use Rattle.session.specs.declared.Field.the-variants.{Objects, TaskState, TaskSlots, SlotMode, SlotMark, SlotPayload}
+use Rattle.session.specs.Names.{resolved, granted, running, held}
 use Rattle.rules.specs.declared.Slot.{Slot}
 use Rattle.rules.specs.declared.Task.{Task}
-use Rattle.rules.specs.Formula.{Formula, holds, not, test, Formula._≐_}
-use Rattle.rules.specs.FormulaLaws.{Case, decide, failed, Case.it-does, Case.it-does-not}
+use Rattle.rules.specs.Formula.{Formula, holds, not, test, Formula._≐_, Formula._and_}
+use Rattle.rules.specs.FormulaLaws.{Case, decide, failed, test-same, Case.it-does, Case.it-does-not}
 use Rattle.rules.specs.Reading.{conflict}
 use Rattle.rules.specs.Checks.{slotFree}
-use Rattle.rules.specs.Sound.{sound}
-use Rattle.checks.specs.SoundParts.{Hold, hold-at}
-use Rattle.checks.specs.Granting.{Passed, slotAt, taskAt, upTo, isHolder, isHold, modeRO, hasClaim, clash, makersClash, slotsFree}
+use Rattle.rules.specs.Sound.{sound, taskPart}
+use Rattle.checks.specs.SoundParts.{Hold, hold-at, few-objects, sound-objects}
+use Rattle.checks.specs.Holders.{Passed, Listed, isHold, placeOf, reach, place-few, place-first, place-number}
+use Rattle.checks.specs.Granting.{slotAt, taskAt, upTo, modeRO, isClaim, clash, makerClash, holdClash}
 
 length-upTo : {A : Type 0} (n : ℕ) (f : ℕ → A) → length (upTo n f) ≡ n
 unfolding upTo
@@ -66,119 +68,107 @@ through-none f = record { all = λ i h. absurd (none i h) }
 pub through-more : (f : ℕ → Formula) (j : ℕ) → Through f j → holds (f j) → Through f (j + 1)
 through-more f j r h = record { all = below-more (λ (i : ℕ). holds (f i)) j (r .all) h }
 
--- nothing is passed at the start, and then one more that the formula does not hold of
-pub pass-none : (f : ℕ → Formula) (a r : ℕ) → r ≡ a → Passed f a r
-pass-none f a r e = record { from = omega arith; none = λ i l h. absurd (less i l h) }
-  where
-    less : (i : ℕ) → i < r → a ≤ i → ⊥
-    less i l h = omega arith
-
-pub pass-more : (f : ℕ → Formula) (a r q : ℕ) → q ≡ r + 1 → Passed f a r → (holds (f r) → ⊥) → Passed f a q
-pass-more f a r q e p n =
-    rw e (record {
-      from = let l = p .from in omega arith;
-      none = below-more (λ (i : ℕ). a ≤ i → holds (f i) → ⊥) r (p .none) (λ h. n);
-    })
-
--- so many in a row that the formula holds of none of
-pub pass-row : (f : ℕ → Formula) (a c : ℕ) → ((n : ℕ) → n < c → holds (f (a + n)) → ⊥) → Passed f a (a + c)
-pass-row f a c h =
-    record {
-      from = omega arith;
-      none = λ i l g x. let e : i ≡ a + (i - a) = omega arith in h (i - a) (omega arith) (subst (λ (n : ℕ). holds (f n)) e x);
-    }
-
--- whoever is passed over is no holder, so its slots hold nothing
-pub pass-holders : (s : Session) → holds (sound s) → (k m : ℕ) → k % 16 ≡ 0 → Passed (isHolder s) (k / 16) m → Passed (isHold s) k (16 * m)
-pass-holders s h k m z p =
-    record {
-      from = let l = p .from in omega arith;
-      none = λ i q l x. p .none (i / 16) (omega arith) (omega arith) (hold-at s h i (let y = x .0 in omega arith) (x .1) .owner);
-    }
-
--- nor do the slots past a task's own
-pub pass-unused : (s : Session) → holds (sound s) → (k : ℕ) → s TaskSlots (k / 16) ≤ k % 16 → Passed (isHold s) k (16 * (k / 16 + 1))
-pass-unused s h k u =
-    record {
-      from = omega arith;
-      none = λ i q l x. past i q l (hold-at s h i (let y = x .0 in omega arith) (x .1) .used);
-    }
-  where
-    past : (i : ℕ) → i < 16 * (k / 16 + 1) → k ≤ i → i % 16 < s TaskSlots (i / 16) → ⊥
-    past i q l x =
-        let e : i / 16 ≡ k / 16 = omega arith in
-        let x′ : i % 16 < s TaskSlots (k / 16) = rw e at x in
-        omega arith
-
--- no hold at a place below k conflicts with a pre-slot of t
-pub record Scanned (s : Session) (t k : ℕ) : Type 0 where
-  pub clear : (n : ℕ) → n < k → holds (isHold s n) → (j : ℕ) → j < s TaskSlots t → holds (clash (slotAt s (at t j)) (slotAt s n)) → ⊥
-
-module _ (s : Session) (t : ℕ) where
-  pub scan-none : Scanned s t 0
-  scan-none = record { clear = λ n h. absurd (none n h) }
+-- what the hold at a place is asked, at place 0 and at any other
+module _ {r : Bool} (s : Session) (t : ℕ) (p : Slot) (k : ℕ) where
+  pub from-creation : k ≡ 0 → r ≡ test (makerClash s t p) → r ≡ test (holdClash s t p k)
+  from-creation z e = e ∙ test-same (makerClash s t p) (holdClash s t p k) (λ x. inl (z, x)) back
     where
-      none : (n : ℕ) → n < 0 → ⊥
-      none n h = omega arith
+      back : holds (holdClash s t p k) → holds (makerClash s t p)
+      back (inl x) = x .1
+      back (inr x) = absurd (x .0 z)
 
-  pub scan-over : (k r : ℕ) → Passed (isHold s) k r → Scanned s t k → Scanned s t r
-  scan-over k r p c = record { clear = λ n l h. go n l h (decLt n k) }
+  pub by-slot : (k ≡ 0 → ⊥) → s SlotMark k ≡ held → r ≡ test (clash p (slotAt s k)) → r ≡ test (holdClash s t p k)
+  by-slot n h e = e ∙ test-same (clash p (slotAt s k)) (holdClash s t p k) (λ x. inr (n, (h, x))) back
     where
-      go : (n : ℕ) → n < r → holds (isHold s n) → Dec (n < k) → (j : ℕ) → j < s TaskSlots t → holds (clash (slotAt s (at t j)) (slotAt s n)) → ⊥
-      go n l h (yes b) = c .clear n b h
-      go n l h (no b) = absurd (p .none n l (omega arith) h)
+      back : holds (holdClash s t p k) → holds (clash p (slotAt s k))
+      back (inl x) = absurd (n (x .0))
+      back (inr x) = x .1 .1
 
-  pub scan-more : (k j : ℕ) → Scanned s t k → s TaskSlots t ≤ j → Through (λ i. not (clash (slotAt s (at t i)) (slotAt s k))) j → Scanned s t (k + 1)
-  scan-more k j c l r =
-      record {
-        clear = below-more (λ (n : ℕ). holds (isHold s n) → (j : ℕ) → j < s TaskSlots t → holds (clash (slotAt s (at t j)) (slotAt s n)) → ⊥) k (c .clear) (λ h i m. r .all i (omega arith));
-      }
+pub no-hold : (s : Session) (t : ℕ) (p : Slot) (k : ℕ) → (k ≡ 0 → ⊥) → (s SlotMark k ≡ held → ⊥) → holds (holdClash s t p k) → ⊥
+no-hold s t p k n m (inl x) = n (x .0)
+no-hold s t p k n m (inr x) = m (x .1 .0)
 
+-- no hold with a number below q conflicts with what pre-slot p of t asks for
+abbrev pub Scanned : Session → ℕ → Slot → List ℕ → ℕ → Type 0
+Scanned s t p g q = Through (λ i. not (holdClash s t p (placeOf g i))) q
+
+-- one hold more, and on to the next
+pub scan-more : (s : Session) (t : ℕ) (p : Slot) (g : List ℕ) (q r : ℕ) → Scanned s t p g q → (holds (holdClash s t p (placeOf g q)) → ⊥) → (placeOf g 0 ≡ 0) → Passed (λ i. isHold s (placeOf g i)) (q + 1) r → Scanned s t p g r
+scan-more s t p g q r c n z o = record { all = λ i l. go i l (decLt i (q + 1)) }
+  where
+    passed : Scanned s t p g (q + 1)
+    passed = through-more (λ i. not (holdClash s t p (placeOf g i))) q c n
+
+    -- a place that is passed over holds nothing, or is the first once more
+    over : (i : ℕ) → i < r → q + 1 ≤ i → holds (holdClash s t p (placeOf g i)) → ⊥
+    over i l m (inl y) = passed .all 0 (omega arith) (inl (z, y .1))
+    over i l m (inr y) = o .none i l m (y .1 .0)
+
+    go : (i : ℕ) → i < r → Dec (i < q + 1) → holds (holdClash s t p (placeOf g i)) → ⊥
+    go i l (yes b) = passed .all i b
+    go i l (no b) = over i l (omega arith)
+
+-- the same with more of them
+pub scan-same : (s : Session) (t : ℕ) (p : Slot) (g k : List ℕ) (n q : ℕ) → ((i : ℕ) → i < n → getD k i 0 ≡ getD g i 0) → q ≤ 16 * n → Scanned s t p g q → Scanned s t p k q
+unfolding placeOf
+scan-same s t p g k n q e few c = record { all = λ i l. subst (λ (j : ℕ). holds (not (holdClash s t p j))) (same i (omega arith)) (c .all i l) }
+  where
+    same : (i : ℕ) → i < 16 * n → placeOf g i ≡ placeOf k i
+    same i l = ap (λ (a : ℕ). 16 * a + i % 16) (sym (e (i / 16) (omega arith)))
+
+-- handle 0 has no slots
+no-slots : (s : Session) → holds (sound s) → s TaskSlots 0 ≡ 0
+no-slots s h = go (sound-objects s h .1 0 (omega arith) .1 .1 .0)
+  where
+    go : holds (taskPart s 0) → s TaskSlots 0 ≡ 0
+    go (inl x) = let z = sound-objects s h .0 in let k = x .0 in absurd (omega arith)
+    go (inr x) = x .1 .1 .1 .0
+
+module _ (s : Session) (t j : ℕ) (h : holds (sound s)) (g : List ℕ) (n : ℕ) (y : Listed s g n) where
   -- a scan that found nothing
-  pub free-scanned : (k : ℕ) → 16 * (s Objects 0 + 1) ≤ k → Scanned s t k → (holds (makersClash s t) → ⊥) → holds (slotsFree s t)
+  pub free-scanned : (q : ℕ) → s Objects 0 < reach g n → 16 * n ≤ q → Scanned s t (slotAt s (at t j)) g q → holds (isClaim (slotAt s (at t j))) → holds (slotFree s t (at t j))
   unfolding slotAt
-  free-scanned k l c n j m = go (decide (s SlotPayload (at t j) ≐ 0))
+  free-scanned q up few c claim =
+      inr ((λ x. slot (x .0) (x .1) (x .2)), λ x. c .all 0 (let m = y .some in omega arith) (inl (place-first s g n y, (claim .0, x))))
     where
-      go : Case (s SlotPayload (at t j) ≐ 0) → holds (slotFree s t (at t j))
-      go (it-does z) = inl z
-      go (it-does-not z) =
-          inr ((λ x. c .clear (x .0) (let y = x .1 in omega arith) (x .1, x .2 .1 .0) j m (x .2 .1 .1)), λ x. n (j, m, (z, x)))
+      slot : (k : ℕ) → k < 16 * (s Objects 0 + 1) → holds (not (k / 16 ≐ t) and s SlotMark k ≐ held and s SlotPayload k ≐ s SlotPayload (at t j) and conflict (s SlotMode (at t j)) (s SlotMode k)) → ⊥
+      slot k low x = go (place-number s g n y k (let m = o .made in omega arith) (o .owner))
+        where
+          o : Hold s k
+          o = hold-at s h k (let f = few-objects s h in omega arith) (x .1 .0)
+
+          first : k ≡ 0 → k % 16 < s TaskSlots (k / 16) → ⊥
+          first z u = let u′ : 0 < s TaskSlots 0 = rw z at u in let e = no-slots s h in omega arith
+
+          go : (i : ℕ) × (i < 16 * n) × (placeOf g i ≡ k) → ⊥
+          go (i, l, e) =
+              c .all i (omega arith) (subst (λ (m : ℕ). holds (holdClash s t (slotAt s (at t j)) m)) (sym e) (inr ((λ z. first z (o .used)), x .1)))
 
   -- a hold in conflict
-  pub taken-place : holds (sound s) → s TaskState t ≡ resolved → (k j : ℕ) → holds (isHold s k) → j < s TaskSlots t → holds (clash (slotAt s (at t j)) (slotAt s k)) → holds (slotsFree s t) → ⊥
+  pub taken : s TaskState t ≡ resolved → (q : ℕ) → q < 16 * n → holds (isClaim (slotAt s (at t j))) → holds (holdClash s t (slotAt s (at t j)) (placeOf g q)) → holds (slotFree s t (at t j)) → ⊥
   unfolding slotAt
-  taken-place h r k j o m x f = go (f j m)
+  taken r q l claim x (inl z) = claim .0 z
+  taken r q l claim (inl x) (inr z) = z .1 (x .1 .1)
+  taken r q l claim (inr x) (inr z) = go (hold-at s h (placeOf g q) (place-few s g n y q l) (x .1 .0))
     where
-      q : Hold s k
-      q = hold-at s h k (let y = o .0 in omega arith) (o .1)
+      other : (k : ℕ) → (s TaskState (k / 16) ≡ granted) ⊎ (s TaskState (k / 16) ≡ running) → k / 16 ≡ t → ⊥
+      other k (inl w) e = let r′ : s TaskState (k / 16) ≡ resolved = rw e r in omega arith
+      other k (inr w) e = let r′ : s TaskState (k / 16) ≡ resolved = rw e r in omega arith
 
-      other : (s TaskState (k / 16) ≡ granted) ⊎ (s TaskState (k / 16) ≡ running) → k / 16 ≡ t → ⊥
-      other (inl w) e = let r′ : s TaskState (k / 16) ≡ resolved = rw e r in omega arith
-      other (inr w) e = let r′ : s TaskState (k / 16) ≡ resolved = rw e r in omega arith
-
-      go : holds (slotFree s t (at t j)) → ⊥
-      go (inl z) = let b = q .block in let e = x .0 in omega arith
-      go (inr z) = z .0 (k, o .0, (other (q .owner), (o .1, x)))
-
-  pub taken-maker : holds (makersClash s t) → holds (slotsFree s t) → ⊥
-  unfolding slotAt
-  taken-maker (j, m, x) f = go (f j m)
-    where
-      go : holds (slotFree s t (at t j)) → ⊥
-      go (inl z) = x .0 z
-      go (inr z) = z .1 (x .1)
+      go : Hold s (placeOf g q) → ⊥
+      go o = z .0 (placeOf g q, (let m = o .made in omega arith), (other (placeOf g q) (o .owner), x .1))
 
 -- RO conflicts with no mode
 ro-conflicts : (a b : ℕ) → a ≡ modeRO → holds (conflict a b) → ⊥
 unfolding test
 ro-conflicts a b e h = failed (conflict modeRO b) refl (rw e at h)
 
--- where no pre-slot claims a block, no hold is in the way
-pub free-unclaimed : (s : Session) (t : ℕ) → (holds (hasClaim s t) → ⊥) → holds (slotsFree s t)
+-- what a pre-slot that claims nothing asks for is free
+pub free-unclaimed : (s : Session) (t i : ℕ) → (holds (isClaim (slotAt s i)) → ⊥) → holds (slotFree s t i)
 unfolding slotAt
-free-unclaimed s t n j m = go (decide (s SlotPayload (at t j) ≐ 0)) (decide (s SlotMode (at t j) ≐ modeRO))
+free-unclaimed s t i n = go (decide (s SlotPayload i ≐ 0)) (decide (s SlotMode i ≐ modeRO))
   where
-    go : Case (s SlotPayload (at t j) ≐ 0) → Case (s SlotMode (at t j) ≐ modeRO) → holds (slotFree s t (at t j))
+    go : Case (s SlotPayload i ≐ 0) → Case (s SlotMode i ≐ modeRO) → holds (slotFree s t i)
     go (it-does z) d = inl z
     go (it-does-not z) (it-does o) = inr ((λ x. ro-conflicts _ _ o (x .2 .1 .1 .1)), λ x. ro-conflicts _ _ o (x .1 .1))
-    go (it-does-not z) (it-does-not o) = absurd (n (j, m, (z, o)))
+    go (it-does-not z) (it-does-not o) = absurd (n (z, o))

@@ -1,5 +1,8 @@
 // What a grant's checks look at: the task by value, and the holds of other tasks. Internal.
 use crate::fields::of_slot;
+use crate::holders::find_more;
+use crate::holders::next_place;
+use crate::holders::place_at;
 use crate::objects::remains_or_null;
 use reading::of_object;
 use rules::Slot;
@@ -12,9 +15,9 @@ ghost use lib.ListN.{length};
 ghost use Rattle.session.specs.Table.{read, words, at};
 ghost use Rattle.session.specs.declared.Field.the-variants.{Objects, TaskState, TaskSlots};
 ghost use Rattle.session.specs.Names.{resolved};
-ghost use Rattle.rules.specs.Formula.{test, holds, Formula.some};
+ghost use Rattle.rules.specs.Formula.{test, holds};
 ghost use Rattle.rules.specs.Sound.{sound};
-ghost use Rattle.checks.specs.Granting.{Passed, HoldFrom, slotAt, taskAt, isHolder, isClaim, hasClaim, clash, makerClash, makersClash, blocksRemain, slotsFree};
+ghost use Rattle.checks.specs.Granting.{slotAt, taskAt, isClaim, hasClaim, clash, makerClash, holdClash, blocksRemain, slotsFree};
 
 // The slot at place i of the fields of slots.
 fn slot_at(s: &[u64], i: usize) -> Slot
@@ -58,72 +61,6 @@ fn task_at(s: &[u64], t: usize) -> Task
         output: session::get(s, Field::TaskOutput, t),
         slots,
     }
-}
-
-// Whether h may hold blocks by its slots.
-fn is_holder(s: &[u64], h: usize) -> bool
-    requires { ⌜ (words ≤ length (now s)) × (h < 513) ⌝ }
-    ensures { λ r. ⌜ r ≡ test (isHolder (read (now (s .entry))) h) ⌝ }
-{
-    let state = session::get(s, Field::TaskState, h);
-    if state == names::GRANTED {
-        return true;
-    }
-    state == names::RUNNING
-}
-
-// Whether one of the eight handles from h on is a holder's. The bound of the loop is constant, so that the compiler makes
-// eight tests in a row of it.
-fn has_holder(s: &[u64], h: usize) -> bool
-    requires { ⌜ (words ≤ length (now s)) × (h ≤ 505) ⌝ }
-    ensures { λ r. ⌜ r ≡ test (some 8 (λ n. isHolder (read (now (s .entry))) (h + n))) ⌝ }
-{
-    let mut n: usize = 0;
-    while n < 8 {
-        if is_holder(s, h + n) {
-            return true;
-        }
-        n += 1;
-    }
-    false
-}
-
-// h, if it is a holder; else a handle further on, with no holder before it.
-fn next_holder(s: &[u64], h: usize) -> usize
-    requires { ⌜ (words ≤ length (now s)) × (h < 513) ⌝ }
-    ensures { λ r. ⌜ (r ≤ h + 8) × Passed (isHolder (read (now (s .entry)))) h r ⌝ }
-{
-    if h <= 505 {
-        if !has_holder(s, h) {
-            return h + 8;
-        }
-    }
-    if is_holder(s, h) {
-        return h;
-    }
-    h + 1
-}
-
-// Place k, if its slot holds a block; else a place further on, with no hold before it.
-fn next_hold(s: &[u64], k: usize) -> usize
-    requires { ⌜ (words ≤ length (now s)) × holds (sound (read (now s))) × (k < 16 * (read (now s) Objects 0 + 1)) ⌝ }
-    ensures { λ r. ⌜ HoldFrom (read (now (s .entry))) k r ⌝ }
-{
-    let h = k / 16;
-    let j = k % 16;
-    if j == 0 {
-        let m = next_holder(s, h);
-        if m != h {
-            return 16 * m;
-        }
-    }
-    if session::get(s, Field::TaskSlots, h) <= j as u64 {
-        return 16 * (h + 1);
-    }
-    if session::get(s, Field::SlotMark, k) != names::HELD {
-        return k + 1;
-    }
-    k
 }
 
 // Whether a pre-slot asks for a block in a mode that conflicts with some other: RO does with none.
@@ -178,19 +115,19 @@ fn maker_clashes(s: &[u64], t: u64, slot: Slot) -> bool
     rules::conflicts(slot.mode, names::RW)
 }
 
-fn makers_clash(s: &[u64], t: u64) -> bool
-    requires { ⌜ (words ≤ length (now s)) × (t ≤ 512) × (read (now s) TaskSlots t ≤ 16) ⌝ }
-    ensures { λ r. ⌜ r ≡ test (makersClash (read (now (s .entry))) t) ⌝ }
+// Whether what the slot asks for conflicts with the hold at place k. Place 0 is no task's, and stands for the hold from the
+// creation of the slot's block.
+fn hold_clashes(s: &[u64], t: u64, slot: Slot, k: usize) -> bool
+    requires { ⌜ (words ≤ length (now s)) × (k < 8208) ⌝ }
+    ensures { λ r. ⌜ r ≡ test (holdClash (read (now (s .entry))) t slot k) ⌝ }
 {
-    let count = of_object(s, Field::TaskSlots, t);
-    let mut j: u64 = 0;
-    while j < count {
-        if maker_clashes(s, t, slot_of(s, t as usize, j as usize)) {
-            return true;
-        }
-        j += 1;
+    if k == 0 {
+        return maker_clashes(s, t, slot);
     }
-    false
+    if session::get(s, Field::SlotMark, k) != names::HELD {
+        return false;
+    }
+    clashes(slot, slot_at(s, k))
 }
 
 // Whether the block of each pre-slot remains: none is doomed or destroyed.
@@ -209,8 +146,9 @@ pub fn blocks_remain(s: &[u64], t: u64) -> bool
     true
 }
 
-// Whether no hold of another task conflicts with what the pre-slots ask for: a scan over the holds by slots and, for each,
-// over the pre-slots, left at the first pair in conflict. A resolved task holds nothing, so every hold is another task's.
+// Whether no hold of another task conflicts with what the pre-slots ask for: a scan over the pre-slots and, for each that asks
+// for more than reading, over the holds, left at the first pair in conflict. A resolved task holds nothing, so every hold is
+// another task's.
 pub fn is_free(s: &[u64], t: u64) -> bool
     requires { ⌜
         (words ≤ length (now s)) × holds (sound (read (now s))) × (t ≤ read (now s) Objects 0) × (read (now s) TaskState t ≡ resolved)
@@ -220,32 +158,29 @@ pub fn is_free(s: &[u64], t: u64) -> bool
     if !has_claim(s, t) {
         return true;
     }
-    if makers_clash(s, t) {
-        return false;
-    }
     let task = task_at(s, t as usize);
     let count = task.count;
-    let end = 16 * (session::get(s, Field::Objects, 0) as usize + 1);
+    let mut holders: [u16; 513] = [0; 513];
+    let mut found: usize = 1;
     let mut free = true;
-    let mut k: usize = 0;
-    'holds: while k < end {
-        let next = next_hold(s, k);
-        if next != k {
-            k = next;
+    let mut j: u64 = 0;
+    'slots: while j < count {
+        let i = j as usize;
+        let slot = task.slots[i];
+        if !is_claim(slot) {
+            j += 1;
             continue;
         }
-        let hold = slot_at(s, k);
-        let mut j: u64 = 0;
-        while j < count {
-            let i = j as usize;
-            let slot = task.slots[i];
-            if clashes(slot, hold) {
+        let mut q: usize = 0;
+        while q < 16 * found {
+            if hold_clashes(s, t, slot, place_at(&holders, q)) {
                 free = false;
-                break 'holds;
+                break 'slots;
             }
-            j += 1;
+            q = next_place(s, &holders, found, q);
+            found = find_more(s, &mut holders, found, q);
         }
-        k += 1;
+        j += 1;
     }
     free
 }

@@ -11,6 +11,7 @@ ghost use Rattle.checks.specs.CheckParts.{satisfyOrLinkChecks};
 
 pub mod fields;
 pub mod granting;
+pub mod holders;
 pub mod holding;
 pub mod objects;
 

@@ -1,6 +1,6 @@
 -- What running an operation on lent memory answers and leaves.
 use Prim.Native.Nat.{ℕ, suc, _-_, _≤_, _<_}
-use mathlib.Core.Path.{_≡_, refl, sym, _∙_}
+use mathlib.Core.Path.{_≡_, refl, ap, sym, _∙_}
 use native.Mathlib.Omega.{arith}
 use mathlib.Core.Bool.{true, false}
 use mathlib.Core.List.{List}
@@ -15,31 +15,33 @@ use Rattle.rules.specs.declared.Answer.the-variants.{Accepted, Refused}
 use Rattle.rules.specs.Formula.{holds, test, choose, Formula._≐_}
 use Rattle.rules.specs.FormulaLaws.{choose-yes, choose-no, passed, failed}
 use Rattle.rules.specs.Checks.{Check, refusal}
-use Rattle.rules.specs.Answer.{refusedOf, madeOf}
+use Rattle.rules.specs.Answer.{refusedOf, madeOf, answerOf, answer-accepted, answer-refused, refused-told, made-told}
 use Rattle.rules.specs.Sound.{sound}
 use Rattle.rules.specs.Step.{Reply, rules, ruleOf, answer, after, outcome, step}
 use Rattle.sound.specs.Whole.{soundMemory, memory-tested}
 use Rattle.laws.specs.Cases.{step-sound, step-unsound}
+use Rattle.laws.specs.OneCall.{refusal-makes-nothing}
 
--- An operation with these checks, effect and number made, run on memory: the answer says the first check that fails, or what
--- was made; the memory holds the session after; and under a refusal the words themselves are the same.
-pub record Played (before after : List ℕ) (r : Answer) (checks : List Check) (does : Session) (makes : ℕ) : Type 0 where
-  pub refused : refusedOf r ≡ refusal checks
-  pub made : madeOf r ≡ choose (refusal checks ≐ 0) makes 0
-  pub leaves : Wrote before after (choose (refusal checks ≐ 0) does (read before))
-  pub stays : (refusedOf r ≡ 0 → ⊥) → after ≡ before
+-- What a call answers and leaves in memory: the reply's answer; its session, the words past the layout as they were; and where the
+-- reply is a refusal every word as it was.
+pub record Replied (before after : List ℕ) (r : Answer) (reply : Reply) : Type 0 where
+  pub answer : r ≡ answerOf reply
+  pub leaves : Wrote before after (reply .leaves)
+  pub stays : (reply .refused ≡ 0 → ⊥) → after ≡ before
 
 -- What a single call promises of any memory: check 1 ("Session memory is shorter than docs/ says"), then `step`, with check 2 and
--- the others. The answer's two numbers are the reply's; the words past the layout stay; a refusal changes no word.
-pub record Replied (before after : List ℕ) (r : Answer) (reply : Reply) : Type 0 where
-  pub refused : refusedOf r ≡ reply .refused
-  pub made : madeOf r ≡ reply .made
-  pub leaves : Wrote before after (reply .leaves)
-  pub stays : (refusedOf r ≡ 0 → ⊥) → after ≡ before
-
+-- the others.
 abbrev pub Answered : List ℕ → List ℕ → Operation → Answer → Type 0
 Answered before after op r =
     pick (leb words (length before)) (Replied before after r (step (read before) op)) ((r ≡ Refused 1) × (after ≡ before))
+
+-- an operation with these checks, effect and number made, on a sound session: the first check that fails, or what it does and makes
+unfoldable pub replyBy : Session → List Check → Session → ℕ → Reply
+replyBy s checks does makes =
+    record { refused = refusal checks; made = choose (refusal checks ≐ 0) makes 0; leaves = choose (refusal checks ≐ 0) does s }
+
+abbrev pub Played : List ℕ → List ℕ → Answer → List Check → Session → ℕ → Type 0
+Played before after r checks does makes = Replied before after r (replyBy (read before) checks does makes)
 
 -- the operation of a code and its fields
 abbrev pub operationOf : ℕ → List ℕ → Operation
@@ -53,12 +55,11 @@ PlayedBy before after r code fields =
 -- a refusal
 pub played-refused : (ws : List ℕ) (n : ℕ) (checks : List Check) (does : Session) (makes : ℕ) → n ≡ refusal checks → (n ≡ 0 → ⊥)
     → Played ws ws (Refused n) checks does makes
-unfolding refusedOf madeOf
+unfolding replyBy
 played-refused ws n checks does makes e z =
     let f : refusal checks ≡ 0 → ⊥ = λ q. z (e ∙ q) in
     record {
-      refused = e;
-      made = sym (choose-no (refusal checks ≐ 0) makes 0 f);
+      answer = ap Refused e ∙ sym (answer-refused (replyBy (read ws) checks does makes) f);
       leaves = rw (choose-no (refusal checks ≐ 0) does (read ws) f) (wrote-none ws);
       stays = λ _. refl;
     }
@@ -66,13 +67,13 @@ played-refused ws n checks does makes e z =
 -- an operation accepted
 pub played-accepted : (before after : List ℕ) (m : ℕ) (checks : List Check) (does : Session) (makes : ℕ) → refusal checks ≡ 0 → m ≡ makes
     → Wrote before after does → Played before after (Accepted m) checks does makes
-unfolding refusedOf madeOf
+unfolding replyBy
 played-accepted before after m checks does makes e q w =
+    let made = q ∙ sym (choose-yes (refusal checks ≐ 0) makes 0 e) in
     record {
-      refused = sym e;
-      made = q ∙ sym (choose-yes (refusal checks ≐ 0) makes 0 e);
+      answer = ap Accepted made ∙ sym (answer-accepted (replyBy (read before) checks does makes) e);
       leaves = rw (choose-yes (refusal checks ≐ 0) does (read before) e) w;
-      stays = λ n. absurd (n refl);
+      stays = λ n. absurd (n e);
     }
 
 -- a code that there is not
@@ -99,21 +100,27 @@ no-move n l a b c d = omega arith
 -- from the operation's checks and effect to one step of a sound session
 pub replied : (before after : List ℕ) (r : Answer) (op : Operation) → holds (sound (read before)) → PlayedBy before after r (op .code) (op .fields)
     → Replied before after r (step (read before) op)
-unfolding answer after outcome
-replied before after r op h p = rw (step-sound (read before) op h) (record { refused = p .refused; made = p .made; leaves = p .leaves; stays = p .stays })
+unfolding replyBy answer after outcome
+replied before after r op h p = rw (step-sound (read before) op h) p
 
 -- memory too short, a session not sound, and one that is
 pub answered-short : (ws : List ℕ) (op : Operation) → length ws < words → Answered ws ws op (Refused 1)
 answered-short ws op h = rw (lt-leb words (length ws) h) (refl, refl)
 
 pub answered-unsound : (ws : List ℕ) (op : Operation) → words ≤ length ws → (holds (sound (read ws)) → ⊥) → Answered ws ws op (Refused 2)
-unfolding refusedOf madeOf
+unfolding answerOf test
 answered-unsound ws op h n =
-    rw (le-leb words (length ws) h, step-unsound (read ws) op n) (record { refused = refl; made = refl; leaves = wrote-none ws; stays = λ _. refl })
+    rw (le-leb words (length ws) h, step-unsound (read ws) op n) (record { answer = refl; leaves = wrote-none ws; stays = λ _. refl })
 
 pub answered-sound : (before after : List ℕ) (op : Operation) (r : Answer) → words ≤ length before → Replied before after r (step (read before) op)
     → Answered before after op r
 answered-sound before after op r h p = rw (le-leb words (length before) h) p
+
+-- the answer's two numbers are those of `step`
+pub numbers : {before after : List ℕ} {r : Answer} (s : Session) (op : Operation) → Replied before after r (step s op)
+    → (refusedOf r ≡ step s op .refused) × (madeOf r ≡ step s op .made)
+numbers s op p =
+    (ap refusedOf (p .answer) ∙ refused-told (step s op), ap madeOf (p .answer) ∙ made-told (step s op) (refusal-makes-nothing s op))
 
 pub memory-sound : (ws : List ℕ) → words ≤ length ws → soundMemory ws ≡ true → holds (sound (read ws))
 memory-sound ws h e = passed (sound (read ws)) (sym (memory-tested ws h) ∙ e)

@@ -36,6 +36,13 @@ pub record Narrowed (s : Session) (t h : ℕ) : Type 0 where
   pub known : h ≤ s Objects 0
   pub reached : (e : ℕ) → holds (finishes s e) → Reached (s TaskCreator) t (e - 1) → Reached (s TaskCreator) h (e - 1)
 
+-- a climb stops where it stands, or past the last task
+pub narrowed-here : (s : Session) (t : ℕ) → t ≤ s Objects 0 → Narrowed s t t
+narrowed-here s t l = record { known = l; reached = λ e f r. r }
+
+pub narrowed-none : (s : Session) (t : ℕ) → t ≡ 0 → Narrowed s t 0
+narrowed-none s t z = record { known = omega arith; reached = λ e f r. let m = r .0 in absurd (omega arith) }
+
 pub only-narrowed : (s : Session) (t h : ℕ) → OnlyAbove s t → Narrowed s t h → OnlyAbove s h
 only-narrowed s t h o n = record { known = n .known; reached = λ e f. n .reached e f (o .reached e f) }
 
@@ -123,16 +130,16 @@ module _ (s : Session) (x : Tidy s) (h : ℕ) (l : h ≤ s Objects 0) where
       go (inl q) = let m = r .0 in inl (own (omega arith))
       go (inr u) = inr (up (above-creator c (s Objects 0) (x .frame .falls) h (e - 1) l u) (decide (s TaskState (c h) ≼ running)))
 
-  -- one step up where the event of h does not wait
-  pub climbs : (t : ℕ) → 1 ≤ h → Narrowed s t h → (holds (waits s h) → ⊥) → Narrowed s t (doneCreator s h)
-  climbs t m o n = record {
-    known = let d = done-lower m in omega arith;
-    reached = λ e f r. go e (step e f (o .reached e f r) (λ q. n (waits-of s h (subst (λ (i : ℕ). holds (finishes s i)) q f))));
+  -- what is narrowed to from one step up is narrowed to from h, where the event of h does not wait
+  pub climbs : (r u : ℕ) → u ≡ doneCreator s h → (holds (waits s h) → ⊥) → Narrowed s u r → Narrowed s h r
+  climbs r u e n o = record {
+    known = o .known;
+    reached = λ k f q. o .reached k f (go k (step k f q (λ i. n (waits-of s h (subst (λ (j : ℕ). holds (finishes s j)) i f)))));
   }
     where
-      go : (e : ℕ) → ⊥ ⊎ Reached c (doneCreator s h) (e - 1) → Reached c (doneCreator s h) (e - 1)
-      go e (inl q) = absurd q
-      go e (inr r) = r
+      go : (k : ℕ) → ⊥ ⊎ Reached c (doneCreator s h) (k - 1) → Reached c u (k - 1)
+      go k (inl q) = absurd q
+      go k (inr q) = rw e q
 
   module _ (m : List ℕ) (found : ℕ) (some : 1 ≤ h) (y : Climbed s m found h) where
     -- one step up where the event of h does not finish

@@ -63,14 +63,14 @@ fn first_waiting(s: &[u64], t: u64) -> u64
     requires { ⌜ (words ≤ length (now s)) × Tidy (read (now s)) × (t ≤ read (now s) Objects 0) ⌝ }
     ensures { λ r. ⌜ Narrowed (read (now (s .entry))) t r × ((r ≡ 0 → ⊥) → holds (waits (read (now (s .entry))) r)) ⌝ }
 {
-    let mut h = t;
-    while h != 0 {
-        if task_waits(s, h) {
-            return h;
-        }
-        h = done_creator(s, h);
+    if t == 0 {
+        return 0;
     }
-    0
+    if task_waits(s, t) {
+        return t;
+    }
+    let c = done_creator(s, t);
+    first_waiting(s, c)
 }
 
 // Whether the output event of task h waits and no descendant of h is live, which the mark tells. Internal, as `task_waits` is.
@@ -102,19 +102,19 @@ fn mark_task(s: &[u64], live: &[u64], fires: &mut [u64], found: u64, h: u64) -> 
     found
 }
 
-// Marks every event that finishes, by a climb from task t; the answer is what `mark_task` has found. Internal, as that is.
-fn mark_climbing(s: &[u64], live: &[u64], fires: &mut [u64], t: u64) -> u64
+// Marks every event that finishes and is not marked yet, by a climb from task h on; before and after, `found` is as `mark_task`
+// has it. Internal, as that is.
+fn mark_climbing(s: &[u64], live: &[u64], fires: &mut [u64], found: u64, h: u64) -> u64
     requires { ⌜ (words ≤ length (now s)) × Tidy (read (now s)) × (length (now live) ≡ 513) × Shows (now live) (busy (read (now s)))
-        × (length (now fires) ≡ 513) × Climbed (read (now s)) (now fires) 0 t ⌝ }
+        × (length (now fires) ≡ 513) × Climbed (read (now s)) (now fires) found h ⌝ }
     ensures { λ r. ⌜ Climbed (read (now (s .entry))) (now (fires .exit)) r 0 ⌝ }
 {
-    let mut found: u64 = 0;
-    let mut h = t;
-    while h != 0 {
-        found = mark_task(s, live, fires, found, h);
-        h = done_creator(s, h);
+    if h == 0 {
+        return found;
     }
-    found
+    let more = mark_task(s, live, fires, found, h);
+    let c = done_creator(s, h);
+    mark_climbing(s, live, fires, more, c)
 }
 
 // Event e is fired if it is marked. Internal: callers have shown the lengths and the handle.
@@ -187,7 +187,7 @@ fn fire_above(s: &mut [u64], t: u64)
 {
     let live = ancestors::busy_marks(s);
     let mut fires: [u64; 513] = [0; 513];
-    let found = mark_climbing(s, &live, &mut fires, t);
+    let found = mark_climbing(s, &live, &mut fires, 0, t);
     if found == 0 {
         return;
     }

@@ -1,7 +1,8 @@
--- The book and a session that it is related to have the same tasks, the same of them live, and the same descendants.
+-- The book and a session that it is related to have the same tasks, the same of them live, and the same descendants: the book's
+-- makers above a task (`madeBy`) are the creators that a session has it under (`under`).
 use Prim.Native.Nat.{ℕ, zero, suc, _+_, _≤_, _<_}
 use mathlib.Core.Path.{_≡_, sym, subst, fun-ext, _∙_}
-use mathlib.Core.Logic.{inl, inr}
+use mathlib.Core.Logic.{_⊎_, inl, inr}
 use native.Mathlib.Omega.{arith}
 use native.Mathlib.Decide.{decLt}
 use Rattle.session.specs.Table.{Session}
@@ -11,10 +12,11 @@ use Rattle.rules.specs.Formula.{holds, not, Formula._≐_, Formula._and_, Formu
 use Rattle.rules.specs.FormulaLaws.{Case, decide, Case.it-does, Case.it-does-not}
 use Rattle.rules.specs.Reading.{made, isLive, busy, under}
 use Rattle.rules.specs.Sound.{kept, taskPart}
-use Rattle.rules.specs.Book.{Book, Column, live, done}
+use Rattle.rules.specs.Book.{Book, Column, madeBy, live, descends, done}
 use Rattle.laws.specs.Kept.{rest-of}
 use Rattle.laws.specs.Relation.{Marks, Related}
 use Rattle.laws.specs.Tidy.{Tidy}
+use Rattle.laws.specs.Under.{or-map, creator-falls}
 
 -- a mark of 1 says what it marks, a mark of 0 that it is not so
 pub marked : (n m k : ℕ) → Marks (n ≡ m) k → k ≡ 1 → n ≡ m
@@ -26,6 +28,31 @@ marked n m k x e = go (decide (n ≐ m))
 
 pub unmarked : {P : Type 0} (k : ℕ) → Marks P k → k ≡ 0 → P → ⊥
 unmarked k x e p = let z : k ≡ 1 = x .0 p in omega arith
+
+-- whom a session has h under made it in the book
+made-under : (c : ℕ → ℕ) (n h a : ℕ) → holds (under c n h a) → holds (madeBy c n a h)
+unfolding under madeBy
+made-under c zero h a x = x
+made-under c (suc n) h a x = or-map (made-under c n (c h) a) (x .1)
+
+-- and back, where nobody made 0
+under-made : (c : ℕ → ℕ) → c 0 ≡ 0 → (n h a : ℕ) → 1 ≤ a → holds (madeBy c n a h) → holds (under c n h a)
+unfolding under madeBy
+under-made c none zero h a l x = x
+under-made c none (suc n) h a l x = go (under-made c none n (c h) a l) x
+  where
+    -- nobody stands above 0
+    top : (n : ℕ) → holds (under c n 0 a) → ⊥
+    top zero y = y
+    top (suc n) y = let z = y .0 in omega arith
+
+    go : (holds (madeBy c n a (c h)) → holds (under c n (c h) a)) → (c h ≡ a) ⊎ holds (madeBy c n a (c h)) → holds (under c (suc n) h a)
+    go r (inl e) = (omega arith, inl e)
+    go r (inr y) = climb (decLt 0 (c h))
+      where
+        climb : Dec (0 < c h) → holds (under c (suc n) h a)
+        climb (yes p) = (p, inr (r y))
+        climb (no p) = let z : c h ≡ 0 = omega arith in absurd (top n (subst (λ (k : ℕ). holds (under c n k a)) z (r y)))
 
 module _ (s : Session) (b : Book) (k : holds (kept s)) (x : Related s b) where
   -- a task of the session that is not past running is live in the book
@@ -70,21 +97,45 @@ module _ (s : Session) (b : Book) (k : holds (kept s)) (x : Related s b) where
   makers : b Column.Maker ≡ s TaskCreator
   makers = fun-ext (x .shape .makers)
 
-  pub busy-there : (t : ℕ) → holds (some (b Column.Objects 0 + 1) (λ h. live b h and under (b Column.Maker) h h t)) → holds (busy s t)
-  busy-there t y =
+  -- nobody made 0
+  no-creator : s TaskCreator 0 ≡ 0
+  no-creator = go (decLt 0 (s TaskCreator 0))
+    where
+      go : Dec (0 < s TaskCreator 0) → s TaskCreator 0 ≡ 0
+      go (yes p) = let f = creator-falls s (rest-of s k) 0 (omega arith) p in absurd (omega arith)
+      go (no n) = omega arith
+
+  -- the same descendants
+  pub descends-there : (t h : ℕ) → 1 ≤ t → holds (descends b t h) → holds (under (s TaskCreator) h h t)
+  descends-there t h p y = under-made (s TaskCreator) no-creator h h t p (subst (λ (c : ℕ → ℕ). holds (madeBy c h t h)) makers y)
+
+  pub descends-here : (t h : ℕ) → holds (under (s TaskCreator) h h t) → holds (descends b t h)
+  descends-here t h y = subst (λ (c : ℕ → ℕ). holds (madeBy c h t h)) (sym makers) (made-under (s TaskCreator) h h t y)
+
+  busy-there : (t : ℕ) → 1 ≤ t → holds (some (b Column.Objects 0 + 1) (λ h. live b h and descends b t h)) → holds (busy s t)
+  busy-there t p y =
       let q = x .shape .objects in
       let l : y .0 < s Objects 0 + 1 = let m = y .1 in omega arith in
-      (y .0, l, (live-there (y .0) (omega arith) (y .2 .0), subst (λ (c : ℕ → ℕ). holds (under c (y .0) (y .0) t)) makers (y .2 .1)))
+      (y .0, l, (live-there (y .0) (omega arith) (y .2 .0), descends-there t (y .0) p (y .2 .1)))
 
-  pub busy-here : (t : ℕ) → holds (busy s t) → holds (some (b Column.Objects 0 + 1) (λ h. live b h and under (b Column.Maker) h h t))
+  busy-here : (t : ℕ) → holds (busy s t) → holds (some (b Column.Objects 0 + 1) (λ h. live b h and descends b t h))
   busy-here t y =
       let q = x .shape .objects in
       let l : y .0 < b Column.Objects 0 + 1 = let m = y .1 in omega arith in
-      (y .0, l, (live-here (y .0) (y .2 .0), subst (λ (c : ℕ → ℕ). holds (under c (y .0) (y .0) t)) (sym makers) (y .2 .1)))
+      (y .0, l, (live-here (y .0) (y .2 .0), descends-here t (y .0) (y .2 .1)))
+
+  -- what has ended is not 0
+  ended-past : (t : ℕ) → s TaskState t ≡ ended → 1 ≤ t
+  ended-past zero e = go (rest-of s k .objects .1 0 (omega arith) .1 .1 .0)
+    where
+      go : holds (taskPart s 0) → 1 ≤ 0
+      go (inl y) = let z = rest-of s k .objects .0 in let w = y .0 in absurd (omega arith)
+      go (inr y) = let w = y .1 .0 in absurd (omega arith)
+  ended-past (suc t) e = omega arith
 
   -- done in the book: ended and not busy
   pub done-there : (t : ℕ) → holds (done b t) → holds (s TaskState t ≐ ended and not (busy s t))
   done-there t y = (marked (s TaskState t) ended (b Column.Ended t) (x .ended t) (y .0), λ z. y .1 (busy-here t z))
 
   pub done-here : (t : ℕ) → holds (s TaskState t ≐ ended and not (busy s t)) → holds (done b t)
-  done-here t y = (x .ended t .0 (y .0), λ z. y .1 (busy-there t z))
+  done-here t y = (x .ended t .0 (y .0), λ z. y .1 (busy-there t (ended-past t (y .0)) z))

@@ -1,20 +1,16 @@
 -- A sheet as text, which is read back by the crate `text`: numbers in decimal, a record a line, and what `#` starts is a comment.
 use Prim.Native.Nat.{ℕ, zero, suc, _+_, _*_}
 use mathlib.Core.List.{List, [], _∷_, _++_}
-use mathlib.Core.Path.{_≡_}
 use lib.ListN.{length}
-use Rattle.number.specs.Number.{splice}
 use Rattle.decimal.specs.Decimal.{decimal}
 use Rattle.rules.specs.declared.Operation.{Operation}
-use Rattle.rules.specs.Formula.{choose, Formula._≐_, Formula._≼_}
+use Rattle.rules.specs.Formula.{choose, Formula._≐_}
 use Rattle.rules.specs.Step.{arg}
 use Rattle.record.specs.Reading.{fieldCount}
 use Rattle.record.specs.Sheet.{Contents, recordsFrom, headAt}
 use Rattle.record.specs.declared.Place.{Place}
 use Rattle.record.specs.declared.Place.the-variants.{Behind, Refused}
 use Rattle.listing.specs.Names.{nameOf}
-use Rattle.listing.specs.declared.Listed.{Listed}
-use Rattle.listing.specs.declared.Listed.the-variants.{Text, NoRoom}
 
 abbrev pub newline : List ℕ
 newline = 10 ∷ []
@@ -68,17 +64,6 @@ textFrom sheet (Refused n) = refusalLine 0 n
 unfoldable pub textOf : List ℕ → List ℕ
 textOf sheet = textFrom sheet (headAt sheet)
 
--- What a sheet gives, and the memory after it. A byte of the sheet is at most 16 of the text, and a refusal at most 64.
+-- The room that is asked for: a byte of the sheet is at most 16 of the text, and a refusal at most 64.
 abbrev pub roomFor : List ℕ → ℕ
 roomFor sheet = 16 * length sheet + 64
-
-unfoldable pub answer : List ℕ → List ℕ → Listed
-answer sheet out = choose (roomFor sheet ≼ length out) (Text (length (textOf sheet))) NoRoom
-
-unfoldable pub memory : List ℕ → List ℕ → List ℕ
-memory sheet out = choose (roomFor sheet ≼ length out) (splice out 0 (textOf sheet)) out
-
--- Bytes put into memory at a place: the place behind them, and the memory after.
-pub record Put (out : List ℕ) (at : ℕ) (bytes : List ℕ) (next : ℕ) (after : List ℕ) : Type 0 where
-  pub place : next ≡ at + length bytes
-  pub written : after ≡ splice out at bytes

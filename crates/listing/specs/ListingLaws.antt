@@ -4,13 +4,10 @@ use mathlib.Core.List.{List, [], _∷_, _++_, append-assoc}
 use mathlib.Core.Path.{_≡_, refl, ap, sym, _∙_}
 use native.Mathlib.Omega.{arith}
 use native.Mathlib.Numerals.{add-one}
-use lib.ListN.{length, getD, set, drop, length-append}
-use lib.Seq.{drop-cons}
-use Rattle.number.specs.Number.{splice}
-use Rattle.number.specs.Splice.{splice-step, splice-none, splice-then}
+use lib.ListN.{length, length-append}
 use Rattle.decimal.specs.Decimal.{decimal}
 use Rattle.rules.specs.declared.Operation.{Operation}
-use Rattle.rules.specs.Formula.{choose, test, Formula._≐_, Formula._≼_}
+use Rattle.rules.specs.Formula.{test, Formula._≐_, Formula._≼_}
 use Rattle.rules.specs.FormulaLaws.{Case, decide, choose-yes, choose-no, Case.it-does, Case.it-does-not}
 use Rattle.rules.specs.Step.{arg}
 use Rattle.record.specs.declared.Record.{Record}
@@ -18,24 +15,9 @@ use Rattle.record.specs.Reading.{fieldCount, recordAt}
 use Rattle.record.specs.Laws.{Forward, record-forward}
 use Rattle.record.specs.Sheet.{stopped, followed, recordsFrom, headAt}
 use Rattle.record.specs.declared.Place.the-variants.{Behind, Refused}
+use Rattle.text.specs.Put.{Put, put-then}
 use Rattle.listing.specs.Names.{nameOf}
-use Rattle.listing.specs.Listing.{Put, one, fieldText, fieldsText, line, lines, refusalLine, recordsText, textFrom, textOf, roomFor, answer, memory}
-use Rattle.listing.specs.declared.Listed.the-variants.{Text, NoRoom}
-
--- Nothing put, and bytes behind bytes.
-pub put-none : (out : List ℕ) (at : ℕ) → Put out at [] at out
-put-none out at = record { place = omega arith; written = sym (splice-none out at) }
-
-pub put-then : {out : List ℕ} {at : ℕ} {bs cs : List ℕ} {next last : ℕ} {after end : List ℕ}
-    → at + length bs ≤ length out
-    → Put out at bs next after
-    → Put after next cs last end
-    → Put out at (bs ++ cs) last end
-put-then {out} {at} {bs} {cs} h p q =
-    record {
-      place = omega (arith, p .place, q .place, length-append bs cs);
-      written = q .written ∙ rw (p .written, p .place) (splice-then out at bs cs h);
-    }
+use Rattle.listing.specs.Listing.{one, fieldText, fieldsText, line, lines, refusalLine, recordsText, textFrom, textOf}
 
 -- five parts, one behind the other
 pub put-five : (a b c d e : List ℕ) {out o₁ o₂ o₃ o₄ o₅ : List ℕ} {at n₁ n₂ n₃ n₄ n₅ : ℕ}
@@ -52,16 +34,6 @@ put-five a b c d e {out} {at = at} h p q r s t =
     let n₂ : length (a ++ b ++ c) ≡ length (a ++ b) + length c = length-append (a ++ b) c in
     let n₁ : length (a ++ b) ≡ length a + length b = length-append a b in
     put-then (omega arith) (put-then (omega arith) (put-then (omega arith) (put-then (omega arith) p q) r) s) t
-
--- one byte more of those that are put from a place on
-pub put-more : (out bytes : List ℕ) (at k : ℕ) → k < length bytes → at + k < length out
-    → splice (set out (at + k) (getD bytes k 0)) (at + (k + 1)) (drop (k + 1) bytes) ≡ splice out (at + k) (drop k bytes)
-put-more out bytes at k h l =
-    let after = set out (at + k) (getD bytes k 0) in
-    ap (λ (n : ℕ). splice after n (drop (k + 1) bytes)) (omega arith)
-    ∙ ap (λ (n : ℕ). splice after (at + k + 1) (drop n bytes)) (add-one k)
-    ∙ sym (splice-step out (at + k) (getD bytes k 0) (drop (suc k) bytes) l)
-    ∙ ap (splice out (at + k)) (sym (drop-cons bytes k 0 h))
 
 -- The parts of a line.
 pub line-length : (op : Operation)
@@ -166,23 +138,3 @@ module _ (sheet : List ℕ) where
   pub text-behind : (first : ℕ) → headAt sheet ≡ Behind first → textOf sheet ≡ one ++ recordsText 1 (recordsFrom sheet (length sheet) first)
   unfolding textOf textFrom
   text-behind first e = ap (textFrom sheet) e
-
--- What a sheet gives.
-module _ (sheet out : List ℕ) where
-  module _ (room : roomFor sheet ≤ length out) where
-    pub text-answer : answer sheet out ≡ Text (length (textOf sheet))
-    unfolding answer
-    text-answer = choose-yes (roomFor sheet ≼ length out) _ _ room
-
-    pub text-memory : memory sheet out ≡ splice out 0 (textOf sheet)
-    unfolding memory
-    text-memory = choose-yes (roomFor sheet ≼ length out) _ _ room
-
-  module _ (short : length out < roomFor sheet) where
-    pub short-answer : answer sheet out ≡ NoRoom
-    unfolding answer
-    short-answer = choose-no (roomFor sheet ≼ length out) _ _ (λ l. omega arith)
-
-    pub short-memory : memory sheet out ≡ out
-    unfolding memory
-    short-memory = choose-no (roomFor sheet ≼ length out) _ _ (λ l. omega arith)

@@ -1,15 +1,14 @@
 -- The text of a sheet takes at most 16 bytes for each of the sheet's, and 64 more.
 use Prim.Native.Nat.{ℕ, zero, suc, _+_, _-_, _*_, _^_, _≤_, _<_}
-use mathlib.Core.List.{List, _++_}
-use mathlib.Core.Path.{_≡_, refl, ap, _∙_}
+use mathlib.Core.List.{List}
+use mathlib.Core.Path.{_≡_, refl, ap}
 use native.Mathlib.Omega.{arith}
 use native.Mathlib.Nat.{pow-suc}
 use lib.Dec.{lit≤}
-use lib.ListN.{length, take, drop, length-append}
+use lib.ListN.{length, length-append}
 use Rattle.number.specs.Number.{AreBytes, limit32, encode}
 use Rattle.number.specs.Encode.{encode-ind}
 use Rattle.number.specs.Laws.{length-some, value-next}
-use Rattle.number.specs.Splice.{splice-is}
 use Rattle.decimal.specs.Decimal.{decimal}
 use Rattle.lines.specs.LineLaws.{digits-bound}
 use Rattle.rules.specs.declared.Operation.{Operation}
@@ -26,9 +25,8 @@ use Rattle.record.specs.Refusals.{refusal-most}
 use Rattle.record.specs.Laws.{record-refusals, record-again}
 use Rattle.record.specs.SheetLaws.{head-none}
 use Rattle.listing.specs.Names.{nameOf}
-use Rattle.listing.specs.Listing.{fieldText, fieldsText, line, refusalLine, textFrom, textOf, roomFor, answer, memory}
-use Rattle.listing.specs.ListingLaws.{field-length, line-length, refusal-length, forward, left, left-start, left-end, left-refused, left-length, text-answer, text-memory, short-answer}
-use Rattle.listing.specs.declared.Listed.the-variants.{Text}
+use Rattle.listing.specs.Listing.{fieldText, fieldsText, line, refusalLine, textFrom, textOf, roomFor}
+use Rattle.listing.specs.ListingLaws.{field-length, line-length, refusal-length, forward, left, left-start, left-end, left-refused, left-length}
 
 -- A number has at most three digits for each of its bytes.
 pow-three : (n : ℕ) → 10 ^ (3 * suc n) ≡ 1000 * 10 ^ (3 * n)
@@ -139,16 +137,3 @@ text-short sheet are size = go (headAt sheet) (head-as sheet)
     go (Behind first) i =
         omega (arith, i .0, i .1, ap length (left-start sheet first), left-short sheet are size (length sheet) 1 first (omega arith) (i .0))
     go (Refused n) i = omega (arith, refusal-short 0 n (omega arith) i)
-
--- What was written lies in the memory that was lent.
-pub text-fits : (sheet out after : List ℕ) (n : ℕ) → answer sheet out ≡ Text n → after ≡ memory sheet out → n ≤ length after
-text-fits sheet out after n e m = go (decide (roomFor sheet ≼ length out))
-  where
-    go : Case (roomFor sheet ≼ length out) → n ≤ length after
-    go (it-does room) =
-        let same : n ≡ length (textOf sheet) = cc (text-answer sheet out room) in
-        let is : after ≡ take 0 out ++ textOf sheet ++ drop (0 + length (textOf sheet)) out = m ∙ text-memory sheet out room ∙ splice-is out 0 (textOf sheet) in
-        omega (arith, simp length-append at (ap length is))
-    go (it-does-not short) =
-        let no : _≡_ {A = ℕ} 0 1 = cc (short-answer sheet out (omega (arith, short))) in
-        absurd (omega arith)

@@ -2,6 +2,9 @@
 use record::Place;
 use rules::Arity;
 use rules::Operation;
+use rules::refusals;
+use text::Printed;
+use text::write_bytes;
 ghost use mathlib.Core.Path.{_≡_};
 ghost use Prim.Native.Nat.{_+_, _≤_};
 ghost use lib.ListN.{length, getD};
@@ -9,43 +12,54 @@ ghost use Rattle.rules.specs.Arity.{isCode};
 ghost use Rattle.rules.specs.Formula.{holds};
 ghost use Rattle.record.specs.Reading.{fieldCount};
 ghost use Rattle.record.specs.Sheet.{recordsFrom};
+ghost use Rattle.text.specs.Put.{Put};
+ghost use Rattle.text.specs.Printed.{printed, printedMemory};
 ghost use Rattle.listing.specs.Names.{nameOf};
-ghost use Rattle.listing.specs.Listing.{Put, fieldText, fieldsText, line, refusalLine, recordsText, answer, memory};
+ghost use Rattle.listing.specs.Listing.{fieldText, fieldsText, line, refusalLine, recordsText, textOf, roomFor};
 
 // How many bytes of text a byte of the sheet takes at most, and how many more are asked for.
 pub const TEXT_A_BYTE: usize = 16;
 
 pub const TEXT_MORE: usize = 64;
 
-// What a sheet gives: the length of its text, or that the memory lent may be too short for it.
-pub enum Listed {
-    Text(usize),
-    NoRoom,
-}
-
-// Writes a sheet as text at the start of lent memory, which must have 16 bytes for each of the sheet's and 64 more. What can not
-// be read is told in a comment behind the records before it.
-pub fn to_text(sheet: &[u8], out: &mut [u8]) -> Listed
-    ensures answer { λ r. ⌜ r ≡ answer (now (sheet .entry)) (now (out .entry)) ⌝ }
-    ensures bytes { λ r. ⌜ now (out .exit) ≡ memory (now (sheet .entry)) (now (out .entry)) ⌝ }
+// Writes a sheet as text at the start of lent memory, which must have 16 bytes for each of the sheet's and 64 more; under refusal 1
+// no byte is written. What can not be read is told in a comment behind the records before it.
+pub fn to_text(sheet: &[u8], out: &mut [u8]) -> Printed
+    ensures answer { λ r. ⌜ r ≡ printed (roomFor (now (sheet .entry))) (textOf (now (sheet .entry))) (now (out .entry)) ⌝ }
+    ensures bytes { λ r. ⌜ now (out .exit) ≡ printedMemory (roomFor (now (sheet .entry))) (textOf (now (sheet .entry))) (now (out .entry)) ⌝ }
 {
     let room = out.len();
     if room < TEXT_MORE {
-        return Listed::NoRoom;
+        return Printed {
+            refused: refusals::NO_ROOM,
+            used: 0,
+        };
     }
     if (room - TEXT_MORE) / TEXT_A_BYTE < sheet.len() {
-        return Listed::NoRoom;
+        return Printed {
+            refused: refusals::NO_ROOM,
+            used: 0,
+        };
     }
+    let used = write_text(sheet, out);
+    Printed { refused: 0, used }
+}
+
+// Writes the text, and answers how long it is. Internal, as all below are: the caller has shown that there is room.
+fn write_text(sheet: &[u8], out: &mut [u8]) -> usize
+    requires { ⌜ roomFor (now sheet) ≤ length (now out) ⌝ }
+    ensures { λ r. ⌜ Put (now (out .entry)) 0 (textOf (now (sheet .entry))) r (now (out .exit)) ⌝ }
+{
     match record::read_head(sheet) {
-        Place::Refused(n) => Listed::Text(write_refusal(0, n, out, 0)),
+        Place::Refused(n) => write_refusal(0, n, out, 0),
         Place::Behind(first) => {
             let used = write_bytes(b"1\n", out, 0);
-            Listed::Text(write_records(sheet, first, out, used))
+            write_records(sheet, first, out, used)
         }
     }
 }
 
-// Writes the records from the first one's place on. Internal, as all below are: the caller has shown that there is room.
+// Writes the records from the first one's place on.
 fn write_records(sheet: &[u8], first: usize, out: &mut [u8], start: usize) -> usize
     requires { ⌜ 1 ≤ first ⌝ }
     requires { ⌜ start + length (recordsText 1 (recordsFrom (now sheet) (length (now sheet)) first)) ≤ length (now out) ⌝ }
@@ -150,17 +164,4 @@ fn write_name(code: u64, out: &mut [u8], at: usize) -> usize
         12 => write_bytes(b"end", out, at),
         _ => at,
     }
-}
-
-// Writes bytes, and answers the place behind them.
-fn write_bytes(bytes: &[u8], out: &mut [u8], at: usize) -> usize
-    requires { ⌜ at + length (now bytes) ≤ length (now out) ⌝ }
-    ensures { λ r. ⌜ Put (now (out .entry)) at (now (bytes .entry)) r (now (out .exit)) ⌝ }
-{
-    let mut k: usize = 0;
-    while k < bytes.len() {
-        out[at + k] = bytes[k];
-        k += 1;
-    }
-    at + k
 }

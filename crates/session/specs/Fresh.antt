@@ -25,6 +25,10 @@ unfolding firstObjects
 freshSession =
     put (put (put firstObjects SlotMode (at 2 0) modeRW) SlotMark (at 2 0) satisfied) SlotPayload (at 2 0) 1
 
+-- "1. Session memory is shorter than docs/ says": the refusal, 0 if done.
+abbrev pub refusedLength : List ℕ → ℕ
+refusedLength ws = pick (leb words (length ws)) 0 1
+
 -- What a call on lent memory leaves where it accepts no memory shorter than the layout: the session s and, past the layout,
 -- what stood there; shorter memory as it was.
 abbrev pub Leaves : List ℕ → List ℕ → Session → Type 0

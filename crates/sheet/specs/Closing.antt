@@ -8,40 +8,60 @@ use lib.ListN.{length}
 use Rattle.number.specs.Number.{splice}
 use Rattle.lines.specs.Line.{line}
 use Rattle.lines.specs.LineLaws.{digits-bound, line-length}
-use Rattle.session.specs.Table.{read, words}
+use Rattle.session.specs.Table.{Session, read}
 use Rattle.session.specs.declared.Field.the-variants.{Objects, Links, Kind, LinkState}
 use Rattle.session.specs.TableLaws.{read-past}
-use Rattle.rules.specs.Formula.{Formula, holds, choose, count, Formula._≼_, Formula._and_}
+use Rattle.rules.specs.Formula.{Formula, holds, choose, count}
 use Rattle.rules.specs.FormulaLaws.{choose-yes, choose-no}
 use Rattle.rules.specs.Reading.{isLive, isUndelivered, liveTasks, undeliveredLinks, droppedCount}
 use Rattle.laws.specs.Counting.{count-no}
-use Rattle.sheet.specs.Run.{Lines, hasRoom, lastLine}
-use Rattle.sheet.specs.Going.{linesOf}
+use Rattle.sheet.specs.declared.Closed.{Closed}
+use Rattle.sheet.specs.Run.{Lines, lineRoom, lastLine}
+use Rattle.sheet.specs.Going.{linesOf, lent}
 
 -- The lines with the last one behind them.
-abbrev pub withLast : List ℕ → Lines → Lines
-withLast memory l = record { bytes = splice (l .bytes) (l .used) (lastLine (read memory)); used = l .used + length (lastLine (read memory)) }
+abbrev pub withLast : Session → Lines → Lines
+withLast s l = record { bytes = splice (l .bytes) (l .used) (lastLine s); used = l .used + length (lastLine s) }
 
--- So they are left, unless check 1 fails.
-abbrev pub closes : List ℕ → Lines → Formula
-closes memory l = words ≼ length memory and hasRoom l
-
+-- So they are left, unless check 1 fails; then they stay.
 unfoldable pub closed : List ℕ → Lines → Lines
-closed memory l = choose (closes memory l) (withLast memory l) l
+closed memory l = choose (lent memory l) (withLast (read memory) l) l
 
-pub closed-room : (memory : List ℕ) (l : Lines) → holds (closes memory l) → closed memory l ≡ withLast memory l
+-- Writing the last line: the refusal, every byte of the lines and their length; and the line fits into the room for one.
+pub record Closes (memory lines lines′ : List ℕ) (used : ℕ) (c : Closed) : Type 0 where
+  pub refused : c .refused ≡ choose (lent memory (linesOf lines used)) 0 1
+  pub written : linesOf lines′ (c .used) ≡ closed memory (linesOf lines used)
+  pub short : c .refused ≡ 0 → length (lastLine (read memory)) ≤ lineRoom
+
+pub closed-room : (memory : List ℕ) (l : Lines) → holds (lent memory l) → closed memory l ≡ withLast (read memory) l
 unfolding closed
-closed-room memory l h = choose-yes (closes memory l) (withLast memory l) l h
+closed-room memory l h = choose-yes (lent memory l) _ l h
 
-pub closed-not : (memory : List ℕ) (l : Lines) → (holds (closes memory l) → ⊥) → l ≡ closed memory l
+pub closed-not : (memory : List ℕ) (l : Lines) → (holds (lent memory l) → ⊥) → closed memory l ≡ l
 unfolding closed
-closed-not memory l f = sym (choose-no (closes memory l) _ l f)
+closed-not memory l f = choose-no (lent memory l) _ l f
 
-module _ (memory lines : List ℕ) (used : ℕ) (long : words ≤ length memory) (room : holds (hasRoom (linesOf lines used))) where
-  pub closed-by : (a b : ℕ) → a ≡ liveTasks (read memory) → b ≡ undeliveredLinks (read memory) → (c : ℕ) → c ≡ droppedCount (read memory)
-      → linesOf (splice lines used (line a b c)) (used + length (line a b c)) ≡ closed memory (linesOf lines used)
+module _ (memory lines : List ℕ) (used : ℕ) where
+  pub closes-not : (holds (lent memory (linesOf lines used)) → ⊥) → Closes memory lines lines used (record { refused = 1; used = used })
+  closes-not f =
+      record {
+        refused = sym (choose-no (lent memory (linesOf lines used)) 0 1 f);
+        written = sym (closed-not memory (linesOf lines used) f);
+        short = λ e. absurd (omega arith);
+      }
+
+  pub closes-by : holds (lent memory (linesOf lines used)) → (a b c : ℕ) (lines′ : List ℕ) (used′ : ℕ)
+      → a ≡ liveTasks (read memory) → b ≡ undeliveredLinks (read memory) → c ≡ droppedCount (read memory)
+      → length (line a b c) ≤ lineRoom
+      → lines′ ≡ splice lines used (line a b c) → used′ ≡ used + length (line a b c)
+      → Closes memory lines lines′ used (record { refused = 0; used = used′ })
   unfolding lastLine
-  closed-by a b p q c r = cc (p, q, r) ∙ sym (closed-room memory (linesOf lines used) (long, room))
+  closes-by h a b c lines′ used′ p q r short e f =
+      record {
+        refused = sym (choose-yes (lent memory (linesOf lines used)) 0 1 h);
+        written = cc (p, q, r, e, f) ∙ sym (closed-room memory (linesOf lines used) h);
+        short = λ _. rw (← p, ← q, ← r) short;
+      }
 
 pub line-closing : (a b c : ℕ) → a ≤ 2049 → b ≤ 2049 → c < 2 ^ 64 → length (line a b c) ≤ 32
 line-closing a b c ha hb hc =

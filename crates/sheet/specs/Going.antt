@@ -6,10 +6,8 @@ use mathlib.Core.Bool.{Bool, true}
 use native.Mathlib.Omega.{arith}
 use lib.ListN.{length, drop}
 use Rattle.session.specs.Table.{Session, Wrote, read, words}
-use Rattle.rules.specs.declared.Answer.{Answer}
-use Rattle.rules.specs.declared.Answer.the-variants.{Accepted, Refused}
-use Rattle.rules.specs.Answer.{refusedOf, madeOf}
-use Rattle.rules.specs.Formula.{holds}
+use Rattle.rules.specs.Formula.{Formula, holds, choose, Formula._≐_, Formula._≼_, Formula._and_}
+use Rattle.rules.specs.FormulaLaws.{choose-yes, choose-no}
 use Rattle.rules.specs.Sound.{sound, kept}
 use Rattle.rules.specs.Step.{step}
 use Rattle.record.specs.Reading.{recordAt}
@@ -24,22 +22,9 @@ use Rattle.sheet.specs.RunLaws.{run-end, run-full, run-unsound, run-refu
 abbrev pub linesOf : List ℕ → ℕ → Lines
 linesOf bytes used = record { bytes = bytes; used = used }
 
--- the numbers of an answer, and its line
-pub reply-accepted : (n m : ℕ) {r : Answer} → madeOf r ≡ m → r ≡ Accepted n → n ≡ m
-unfolding madeOf
-reply-accepted n m e q = ap madeOf (sym q) ∙ e
-
-pub reply-refused : (n m : ℕ) {r : Answer} → refusedOf r ≡ m → r ≡ Refused n → n ≡ m
-unfolding refusedOf
-reply-refused n m e q = ap refusedOf (sym q) ∙ e
-
-pub line-accepted : (l : Lines) (k n a b : ℕ) {r : Answer} → refusedOf r ≡ a → madeOf r ≡ b → r ≡ Accepted n → withLine l k 0 n ≡ withLine l k a b
-unfolding refusedOf madeOf
-line-accepted l k n a b e f q = ap (λ (x : Answer). withLine l k (refusedOf x) (madeOf x)) (sym q) ∙ cc (e, f)
-
-pub line-refused : (l : Lines) (k n a b : ℕ) {r : Answer} → refusedOf r ≡ a → madeOf r ≡ b → r ≡ Refused n → withLine l k n 0 ≡ withLine l k a b
-unfolding refusedOf madeOf
-line-refused l k n a b e f q = ap (λ (x : Answer). withLine l k (refusedOf x) (madeOf x)) (sym q) ∙ cc (e, f)
+-- "1. Session memory is shorter than docs/ says, or the line or record memory has under 32 bytes free."
+abbrev pub lent : List ℕ → Lines → Formula
+lent memory l = words ≼ length memory and hasRoom l
 
 -- What follows the record at a place with this number, in so many steps more.
 unfoldable pub following : List ℕ → ℕ → ℕ → ℕ → Session → List ℕ → Went → Run
@@ -63,6 +48,18 @@ pub record Goes (sheet : List ℕ) (at k : ℕ) (before after lines lines′ : L
   pub keeps : holds (kept (read before)) → holds (kept (read after))
   pub goes : (steps : ℕ) → runFrom sheet (suc steps) at k (read before) (linesOf lines used) ≡ following sheet steps at (k + 1) (read after) lines′ w
   pub onward : Onward at w
+
+-- So which answer it is, and its numbers, are those of the run in one step: where its place stays, it stopped.
+abbrev pub wentOf : ℕ → Run → Went
+wentOf at r = choose (r .place ≐ at) (Stopped (r .lines .used) (r .ending)) (On (r .place) (r .lines .used))
+
+pub went-told : (sheet : List ℕ) (at k : ℕ) (before after lines lines′ : List ℕ) (used : ℕ) (w : Went) → Goes sheet at k before after lines lines′ used w
+    → w ≡ wentOf at (runFrom sheet 1 at k (read before) (linesOf lines used))
+unfolding following Onward runFrom
+went-told sheet at k before after lines lines′ used (On next used′) g =
+    sym (ap (wentOf at) (g .goes 0) ∙ choose-no (next ≐ at) (Stopped used′ 0) (On next used′) (λ e. let l = g .onward in omega arith))
+went-told sheet at k before after lines lines′ used (Stopped used′ n) g =
+    sym (ap (wentOf at) (g .goes 0) ∙ choose-yes (at ≐ at) (Stopped used′ n) (On at used′) refl)
 
 -- What a run leaves: memories, and how it ended.
 pub record Ends (before after lines : List ℕ) (e : Ended) (r : Run) : Type 0 where

@@ -9,6 +9,8 @@ pub mod NeverFull
 pub mod Printed
 pub mod PrintLaws
 pub mod Parts
+pub mod PartOf
+pub mod PartLaws
 pub mod Printing
 pub mod Output
 pub mod SheetDemand

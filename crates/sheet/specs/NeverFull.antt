@@ -80,7 +80,7 @@ record-not-full sheet at e =
     refusal-other 1 (recordChecks sheet at) (lit< tt) (λ x. omega arith, (λ x. omega arith, (λ x. omega arith, (λ x. omega arith, (λ x. omega arith, tt)))))
     (sym (answered-number (refusal (recordChecks sheet at)) _ _) ∙ e)
 
-head-not-full : (sheet : List ℕ) → headRefusal sheet ≡ 1 → ⊥
+pub head-not-full : (sheet : List ℕ) → headRefusal sheet ≡ 1 → ⊥
 head-not-full sheet = refusal-other 1 (headChecks sheet) (lit< tt) (λ x. omega arith, (λ x. omega arith, (λ x. omega arith, tt)))
 
 -- the first number ends in the sheet

@@ -3,67 +3,38 @@ use Prim.Native.Nat.{ℕ, _+_, _*_, _≤_, _<_}
 use mathlib.Core.List.{List}
 use mathlib.Core.Path.{_≡_, ap, sym, _∙_}
 use native.Mathlib.Omega.{arith}
-use lib.Dec.{lit<}
 use lib.ListN.{length}
-use borrow.Author.Tests.{le-leb}
 use Rattle.number.specs.Splice.{splice-to}
-use Rattle.lines.specs.Line.{line}
 use Rattle.session.specs.Table.{Session, read, words}
 use Rattle.session.specs.declared.Field.the-variants.{Objects, Links, LinkState}
 use Rattle.session.specs.Names.{delivered}
 use Rattle.session.specs.Fresh.{freshSession}
 use Rattle.rules.specs.Formula.{holds, Formula._≐_}
-use Rattle.rules.specs.FormulaLaws.{Case, decide, Case.it-does, Case.it-does-not}
+use Rattle.rules.specs.FormulaLaws.{passes}
 use Rattle.rules.specs.Reading.{isLive, isUndelivered, liveTasks, undeliveredLinks, droppedCount}
 use Rattle.rules.specs.Sound.{sound, soundUsed}
-use Rattle.record.specs.Sheet.{headRefusal, firstRecord}
 use Rattle.laws.specs.Counting.{count-most}
 use Rattle.laws.specs.StepKeeps.{kept-sound}
 use Rattle.laws.specs.Runs.{always-kept}
 use Rattle.sheet.specs.declared.Ended.{Ended}
-use Rattle.sheet.specs.Run.{Lines, hasRoom, Run, endedBy, runFrom, runSheet, lastLine}
-use Rattle.sheet.specs.RunLaws.{sheet-unsound, sheet-refused, sheet-runs}
-use Rattle.sheet.specs.Going.{linesOf, Ends}
-use Rattle.sheet.specs.Whole.{Ran, head-small}
+use Rattle.sheet.specs.Run.{Lines, hasRoom, Run, runSheet, lastLine}
+use Rattle.sheet.specs.Going.{linesOf, lent, Ends}
+use Rattle.sheet.specs.Whole.{Ran}
 use Rattle.sheet.specs.Closing.{closed, closed-room, line-closing}
 use Rattle.sheet.specs.NeverFull.{never-full}
 use Rattle.sheet.specs.Printed.{Printed, prints, after, printSheet, output}
-use Rattle.sheet.specs.PrintLaws.{print-none, print-head, print-records}
-use Rattle.sheet.specs.Parts.{text, text-line, part, rest-none}
+use Rattle.sheet.specs.Parts.{text, whole-part, rest-none}
 use Rattle.sheet.specs.SheetDemand.{sheet-demand}
 
 -- What a run leaves, as something printed.
 abbrev pub left : Run → Printed
 left r = prints (text (r .lines)) (r .session)
 
--- a sheet that is ended by this line at its first number
-left-by : (s : Session) (l : Lines) (n : ℕ) → holds (hasRoom l) → n < 100 → left (endedBy s l 0 0 n) ≡ after (text l) (prints (line 0 n 0) s)
-unfolding endedBy
-left-by s l n room h = ap (λ (x : List ℕ). prints x s) (text-line l 0 n 0 room (lit< tt) h (lit< tt))
-
 -- The theorem, for any session: with 11 bytes for two bytes of the sheet and 64 more, a run leaves the lines that are printed.
 pub whole-printed : (sheet : List ℕ) (s : Session) (l : Lines) → length sheet < 100000 → 2 * l .used + 11 * length sheet + 128 ≤ 2 * length (l .bytes)
     → left (runSheet sheet s l) ≡ after (text l) (printSheet sheet s)
-whole-printed sheet s l small h = sounds (decide (sound s))
-  where
-    room : holds (hasRoom l)
-    room = omega arith
-
-    heads : holds (sound s) → Case (headRefusal sheet ≐ 0) → left (runSheet sheet s l) ≡ after (text l) (printSheet sheet s)
-    heads i (it-does-not f) =
-        let m = head-small sheet in
-        ap left (sheet-refused sheet s l room i f) ∙ left-by s l (headRefusal sheet) room (omega arith) ∙ sym (ap (after (text l)) (print-head sheet s i f))
-    heads i (it-does z) =
-        let r = runFrom sheet (length sheet) (firstRecord sheet) 0 s l in
-        let e = sheet-runs sheet s l room i z in
-        ap left e
-        ∙ sym (rest-none sheet r (λ q. never-full sheet s l small h .not-full (ap (λ (x : Run). x .ending) e ∙ q)))
-        ∙ part sheet (length sheet) (firstRecord sheet) 0 s l (omega arith) (omega arith) (omega arith) .same
-        ∙ sym (ap (after (text l)) (print-records sheet s i z))
-
-    sounds : Case (sound s) → left (runSheet sheet s l) ≡ after (text l) (printSheet sheet s)
-    sounds (it-does-not f) = ap left (sheet-unsound sheet s l room f) ∙ left-by s l 2 room (lit< tt) ∙ sym (ap (after (text l)) (print-none sheet s f))
-    sounds (it-does i) = heads i (decide (headRefusal sheet ≐ 0))
+whole-printed sheet s l small h =
+    sym (rest-none sheet (runSheet sheet s l) (never-full sheet s l small h .not-full)) ∙ whole-part sheet s l (omega arith) (omega arith) .same
 
 -- the last line of a sound session fits where there is room for a line
 last-fits : (s : Session) → holds (sound s) → length (lastLine s) ≤ 32
@@ -86,7 +57,7 @@ pub output-whole : (sheet before after lines lines′ : List ℕ) (e : Ended)
 unfolding output
 output-whole sheet before after lines lines′ e small long memory x =
     let r = runSheet sheet freshSession (linesOf lines 0) in
-    let y : Ends before after lines′ e r = rw (le-leb words (length before) memory) at x in
+    let y : Ends before after lines′ e r = rw (passes (lent before (linesOf lines 0)) (memory, omega arith)) at x in
     let c = never-full sheet freshSession (linesOf lines 0) small (omega arith) in
     let room : holds (hasRoom (linesOf lines′ (e .used))) = rw (y .bytes, y .used) (c .room) in
     let sounds : holds (sound (r .session)) = kept-sound (r .session) (rw (sheet-demand sheet (linesOf lines 0) .0) (always-kept _)) in

@@ -13,7 +13,7 @@ use Rattle.rules.specs.Step.{step}
 use Rattle.record.specs.Reading.{recordAt}
 use Rattle.record.specs.Laws.{record-forward}
 use Rattle.record.specs.Sheet.{headRefusal, firstRecord}
-use Rattle.sheet.specs.Printed.{prints, after, printFrom, printSheet}
+use Rattle.sheet.specs.Printed.{prints, after, printFrom, printSheet, printAt}
 use Rattle.sheet.specs.RunLaws.{below}
 
 module _ (sheet : List ℕ) (at k : ℕ) (s : Session) where
@@ -90,3 +90,13 @@ module _ (sheet : List ℕ) (s : Session) where
     pub print-records : headRefusal sheet ≡ 0 → printSheet sheet s ≡ printFrom sheet (length sheet) (firstRecord sheet) 0 s
     unfolding printSheet
     print-records z = choose-no (not (sound s)) _ _ (λ f. f is) ∙ choose-no (not (headRefusal sheet ≐ 0)) _ _ (λ f. f z)
+
+-- the lines from a place on
+module _ (sheet : List ℕ) (k : ℕ) (s : Session) where
+  pub print-start : printAt sheet 0 k s ≡ printSheet sheet s
+  unfolding printAt
+  print-start = choose-yes (0 ≐ 0) (printSheet sheet s) _ refl
+
+  pub print-behind : (at : ℕ) → (at ≡ 0 → ⊥) → printAt sheet at k s ≡ printFrom sheet (length sheet) at k s
+  unfolding printAt
+  print-behind at f = choose-no (at ≐ 0) (printSheet sheet s) _ f

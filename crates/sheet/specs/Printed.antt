@@ -2,15 +2,18 @@
 -- that no line memory is spoken of.
 use Prim.Native.Nat.{ℕ, zero, suc, _+_}
 use mathlib.Core.List.{List, [], _++_}
+use mathlib.Core.Path.{_≡_, refl}
 use lib.ListN.{length}
 use Rattle.lines.specs.Line.{line}
 use Rattle.session.specs.Table.{Session}
 use Rattle.session.specs.Fresh.{freshSession}
-use Rattle.rules.specs.Formula.{choose, not, Formula._≐_, Formula._≼_}
+use Rattle.rules.specs.Formula.{test, choose, not, Formula._≐_, Formula._≼_}
 use Rattle.rules.specs.Sound.{sound}
 use Rattle.rules.specs.Step.{step}
 use Rattle.record.specs.Reading.{recordAt}
 use Rattle.record.specs.Sheet.{headRefusal, firstRecord}
+use Rattle.sheet.specs.declared.Next.{Next}
+use Rattle.sheet.specs.declared.Next.the-variants.{At, LastLine, Nothing}
 use Rattle.sheet.specs.Run.{lastLine}
 
 -- Bytes printed, and the session that is left.
@@ -44,5 +47,29 @@ printSheet sheet s =
     (printFrom sheet (length sheet) (firstRecord sheet) 0 s))
 
 -- All that the program prints: the lines from a fresh session, and "the last line, printed after any ending".
+abbrev pub closing : Printed → Printed
+closing p = prints (p .text ++ lastLine (p .session)) (p .session)
+
 unfoldable pub output : List ℕ → List ℕ
-output sheet = printSheet sheet freshSession .text ++ lastLine (printSheet sheet freshSession .session)
+output sheet = closing (printSheet sheet freshSession) .text
+
+-- The lines from a place on, after k records: place 0 is the sheet's first number, any other a record.
+unfoldable pub printAt : List ℕ → ℕ → ℕ → Session → Printed
+printAt sheet at k s = choose (at ≐ 0) (printSheet sheet s) (printFrom sheet (length sheet) at k s)
+
+-- A place has no more records before it than bytes.
+abbrev pub recordsBefore : ℕ → ℕ → ℕ
+recordsBefore at k = choose (k ≼ at) k at
+
+-- What is printed from where a sheet goes on, and the session that is left.
+unfoldable pub printNext : List ℕ → Next → Session → Printed
+printNext sheet (At at k) s = closing (printAt sheet at (recordsBefore at k) s)
+printNext sheet LastLine s = prints (lastLine s) s
+printNext sheet Nothing s = prints [] s
+
+abbrev pub outputFrom : List ℕ → Next → Session → List ℕ
+outputFrom sheet next s = printNext sheet next s .text
+
+pub output-start : (sheet : List ℕ) → outputFrom sheet (At 0 0) freshSession ≡ output sheet
+unfolding output printNext printAt test
+output-start sheet = refl

@@ -1,106 +1,66 @@
--- How the code stands while it prints a sheet part by part.
-use Prim.Native.Nat.{ℕ, _+_, _-_, _≤_, _<_, _^_}
-use mathlib.Core.List.{List, [], _++_, append-assoc}
-use mathlib.Core.Path.{_≡_, refl, ap, sym, _∙_}
+-- Printing a sheet part by part.
+use Prim.Native.Nat.{ℕ, _≤_, _<_}
+use mathlib.Core.List.{List, [], _++_}
+use mathlib.Core.Path.{_≡_, refl, ap, _∙_}
 use native.Mathlib.Omega.{arith}
-use lib.ListN.{length, drop}
-use lib.Dec.{leb}
-use mathlib.Core.Bool.{true, false}
-use Rattle.session.specs.Table.{Session, Wrote, read, words}
-use Rattle.session.specs.TableLaws.{wrote-none, wrote-then}
+use lib.ListN.{length, take}
+use Rattle.session.specs.Table.{read, words}
 use Rattle.session.specs.Fresh.{freshSession, Leaves}
-use Rattle.rules.specs.Formula.{holds}
+use Rattle.rules.specs.Formula.{holds, test}
 use Rattle.rules.specs.Sound.{kept}
-use Rattle.record.specs.declared.Place.the-variants.{Behind, Refused}
-use Rattle.record.specs.Sheet.{headAt}
-use Rattle.laws.specs.StepKeeps.{kept-sound}
-use Rattle.sheet.specs.declared.Ended.{Ended}
-use Rattle.sheet.specs.Going.{linesOf, Ends, runOf}
-use Rattle.sheet.specs.Whole.{head-first, head-number}
-use Rattle.sheet.specs.Printed.{Printed, prints, after, printFrom, printSheet}
-use Rattle.sheet.specs.PrintLaws.{print-end, print-head, print-records}
-use Rattle.sheet.specs.Parts.{text, Part, part, rest-full, rest-none}
+use Rattle.sheet.specs.declared.Next.{Next}
+use Rattle.sheet.specs.declared.Next.the-variants.{At, LastLine, Nothing}
+use Rattle.sheet.specs.declared.Part.{Part}
+use Rattle.sheet.specs.Run.{lineRoom}
+use Rattle.sheet.specs.Going.{linesOf, lent}
+use Rattle.sheet.specs.Whole.{fresh-lent}
+use Rattle.sheet.specs.Printed.{Printed, prints, after, printSheet, printAt, printNext, output, output-start}
+use Rattle.sheet.specs.PartOf.{partsLeft, PartOf}
 
--- What is printed from a place on, after k records.
-abbrev pub printOf : List ℕ → ℕ → ℕ → List ℕ → Printed
-printOf sheet at k ws = printFrom sheet (length sheet) at k (read ws)
+-- A chain of parts on one memory, each from where the one before said to go on, until nothing is left; with the bytes of their
+-- lines, one behind the other, and the memory after them.
+pub data Chain (sheet : List ℕ) : Next → List ℕ → List ℕ → List ℕ → Type 0 where
+  done : (memory : List ℕ) → Chain sheet Nothing memory [] memory
+  more : (from : Next) (before after′ lines lines′ : List ℕ) (p : Part) (bytes last : List ℕ)
+      → PartOf sheet from before after′ lines lines′ p
+      → Chain sheet (p .next) after′ bytes last
+      → Chain sheet from before (take (p .used) lines′ ++ bytes) last
 
--- Before the record at a place: what was printed, and what is printed from there on, are the whole.
-pub record Printing (sheet : List ℕ) (first : ℕ) (before now : List ℕ) (at k : ℕ) : Type 0 where
-  pub same-length : length now ≡ length before
-  pub past : drop words now ≡ drop words before
-  pub keeps : holds (kept (read now))
-  pub count : k ≤ at
-  pub printed : List ℕ
-  pub whole : printOf sheet first 0 before ≡ after printed (printOf sheet at k now)
+pub chain-printed : (sheet : List ℕ) (from : Next) (memory bytes last : List ℕ) → Chain sheet from memory bytes last
+    → prints bytes (read last) ≡ printNext sheet from (read memory)
+unfolding printNext
+chain-printed sheet Nothing memory _ _ (done _) = refl
+chain-printed sheet from memory _ last (more _ _ after′ lines lines′ p bytes _ x c) =
+    ap (after (take (p .used) lines′)) (chain-printed sheet (p .next) after′ bytes last c) ∙ x .printed
 
-pub printing-first : (sheet : List ℕ) (first : ℕ) (ws : List ℕ) → holds (kept (read ws)) → Printing sheet first ws ws first 0
-printing-first sheet first ws h = record { same-length = refl; past = refl; keeps = h; count = omega arith; printed = []; whole = refl }
+-- The theorem: the parts of a sheet from a fresh session are its output, and they leave the session that the sheet leaves.
+pub chain-output : (sheet memory bytes last : List ℕ) → read memory ≡ freshSession → Chain sheet (At 0 0) memory bytes last
+    → (bytes ≡ output sheet) × (read last ≡ printSheet sheet freshSession .session)
+unfolding printNext printAt test
+chain-output sheet memory bytes last fresh c =
+    let e = chain-printed sheet (At 0 0) memory bytes last c ∙ ap (printNext sheet (At 0 0)) fresh in
+    (ap (λ (p : Printed). p .text) e ∙ output-start sheet, ap (λ (p : Printed). p .session) e)
 
-module _ (sheet : List ℕ) (first : ℕ) (before now : List ℕ) (at k : ℕ) (g : Printing sheet first before now at k) where
-  -- nothing more is printed
-  printed-all : (ws : List ℕ) (s : Session) (x : List ℕ) → Wrote now ws s → printOf sheet at k now ≡ prints x s
-      → Wrote before ws (printOf sheet first 0 before .session)
-  printed-all ws s x w e =
-      record {
-        same-length = w .same-length ∙ g .same-length;
-        reading = w .reading ∙ sym (ap (λ (p : Printed). p .session) (g .whole ∙ ap (after (g .printed)) e));
-        past = w .past ∙ g .past;
-      }
+-- What a program that prints parts has shown before each: check 1 is met, and the session is kept.
+pub record Ready (memory lines : List ℕ) : Type 0 where
+  pub lends : holds (lent memory (linesOf lines 0))
+  pub keeps : holds (kept (read memory))
 
-  pub printing-end : length sheet ≤ at → Wrote before now (printOf sheet first 0 before .session)
-  printing-end h =
-      printed-all now (read now) [] (wrote-none _) (print-end sheet at k (read now) (length sheet) h)
+pub ready-fresh : (before memory lines : List ℕ) → words ≤ length before → lineRoom ≤ length lines → Leaves before memory freshSession → Ready memory lines
+ready-fresh before memory lines long room w =
+    let x = fresh-lent before memory long w (linesOf lines 0) room in
+    record { lends = x .0; keeps = x .1 }
 
-  module _ (inside : at < length sheet) (small : length sheet < 2 ^ 64) (lines : List ℕ) (long : 32 ≤ length lines) (ws lines′ : List ℕ) (e : Ended)
-      (x : Ends now ws lines′ e (runOf sheet at k now lines 0)) where
-    this : Part sheet at k (read now) (linesOf lines 0) (runOf sheet at k now lines 0)
-    this = part sheet (length sheet) at k (read now) (linesOf lines 0) (omega arith) (g .count) small
+module _ (sheet : List ℕ) (from : Next) (memory after′ lines lines′ : List ℕ) (p : Part) (x : PartOf sheet from memory after′ lines lines′ p) where
+  pub ready-next : Ready memory lines → length lines′ ≡ length lines → Ready after′ lines′
+  ready-next g n = record { lends = (rw (x .session .same-length) (g .lends .0), rw n (g .lends .1)); keeps = x .keeps (g .keeps) }
 
-    pub printing-stop : (e .ending ≡ 1 → ⊥) → Wrote before ws (printOf sheet first 0 before .session)
-    printing-stop f =
-        printed-all ws (runOf sheet at k now lines 0 .session) (text (runOf sheet at k now lines 0 .lines)) (x .session)
-        (sym (this .same) ∙ rest-none sheet (runOf sheet at k now lines 0) (λ q. f (x .ending ∙ q)))
-
-    pub printing-on : e .ending ≡ 1 → (at < e .place) × (1 ≤ e .number) × Printing sheet first before ws (e .place) (e .number - 1)
-    printing-on q =
-        let r = runOf sheet at k now lines 0 in
-        let h = this .halted (sym (x .ending) ∙ q) in (
-          rw (x .place) (h .further long),
-          rw (x .number) (h .begun),
-          record {
-            same-length = x .session .same-length ∙ g .same-length;
-            past = x .session .past ∙ g .past;
-            keeps = rw (x .session .reading) (this .keeps (g .keeps));
-            count = rw (x .place, x .number) (h .count);
-            printed = g .printed ++ text (r .lines);
-            whole = g .whole ∙ ap (after (g .printed)) (sym (this .same) ∙ rest-full sheet r (sym (x .ending) ∙ q))
-                ∙ more;
-          },
-        )
-      where
-        more : after (g .printed) (after (text (runOf sheet at k now lines 0 .lines)) (printFrom sheet (length sheet) (runOf sheet at k now lines 0 .place) (runOf sheet at k now lines 0 .number - 1) (runOf sheet at k now lines 0 .session)))
-            ≡ after (g .printed ++ text (runOf sheet at k now lines 0 .lines)) (printOf sheet (e .place) (e .number - 1) ws)
-        more = rw (x .place, x .number, x .session .reading, append-assoc) refl
-
--- the cases of a whole sheet
-module _ (sheet ws : List ℕ) (h : holds (kept (read ws))) where
-  pub printed-head : (n : ℕ) → headAt sheet ≡ Refused n → Wrote ws ws (printSheet sheet (read ws) .session)
-  printed-head n e =
-      rw (print-head sheet (read ws) (kept-sound (read ws) h) (head-number sheet n e .1)) (wrote-none _)
-
-  pub printed-records : (first : ℕ) (after : List ℕ) → headAt sheet ≡ Behind first → Wrote ws after (printOf sheet first 0 ws .session)
-      → Wrote ws after (printSheet sheet (read ws) .session)
-  printed-records first after e w =
-      let r = head-first sheet first e in
-      rw (print-records sheet (read ws) (kept-sound (read ws) h) (r .0), ← r .1) w
-
--- from memory that a fresh session was written into first, or that was too short for one
-module _ (sheet before middle : List ℕ) where
-  pub printed-short : leb words (length before) ≡ false → Leaves before middle freshSession → Leaves before middle (printSheet sheet freshSession .session)
-  printed-short e l = rw e (rw e at l)
-
-  pub printed-fresh : (after : List ℕ) → leb words (length before) ≡ true → Wrote before middle freshSession
-      → Wrote middle after (printSheet sheet (read middle) .session)
-      → Leaves before after (printSheet sheet freshSession .session)
-  printed-fresh after e w x = rw e (wrote-then w (rw (w .reading) at x))
+  -- where something is left, it is less than before
+  pub parts-fewer : (p .next ≡ Nothing → ⊥) → partsLeft sheet (p .next) < partsLeft sheet from
+  unfolding partsLeft
+  parts-fewer f = omega (arith, x .further, some (p .next) f)
+    where
+      some : (n : Next) → (n ≡ Nothing → ⊥) → 1 ≤ partsLeft sheet n
+      some (At at k) h = omega arith
+      some LastLine h = omega arith
+      some Nothing h = absurd (h refl)

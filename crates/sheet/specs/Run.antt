@@ -67,6 +67,10 @@ runSheet sheet s l =
     (choose (not (headRefusal sheet ≐ 0)) (endedBy s l 0 0 (headRefusal sheet))
     (runFrom sheet (length sheet) (firstRecord sheet) 0 s l)))
 
+-- A sheet from a place on, after k records: place 0 is its first number, any other a record.
+unfoldable pub runAt : List ℕ → ℕ → ℕ → Session → Lines → Run
+runAt sheet at k s l = choose (at ≐ 0) (runSheet sheet s l) (runFrom sheet (length sheet) at k s l)
+
 -- "The last line, printed after any ending, gives live tasks, undelivered links, dropped."
 unfoldable pub lastLine : Session → List ℕ
 lastLine s = line (liveTasks s) (undeliveredLinks s) (droppedCount s)

@@ -12,7 +12,7 @@ use Rattle.rules.specs.Step.{step}
 use Rattle.record.specs.Reading.{recordAt}
 use Rattle.record.specs.Laws.{record-forward}
 use Rattle.record.specs.Sheet.{headRefusal, firstRecord}
-use Rattle.sheet.specs.Run.{Lines, hasRoom, withLine, ended, endedBy, runFrom, runSheet}
+use Rattle.sheet.specs.Run.{Lines, hasRoom, withLine, ended, endedBy, runFrom, runSheet, runAt}
 
 module _ (sheet : List ℕ) (at k : ℕ) (s : Session) (l : Lines) where
   -- the sheet's end
@@ -94,10 +94,6 @@ steps-enough sheet (suc n) (suc m) at k s l hn hm = ends (decide (length sheet �
 
 -- the cases of a whole sheet
 module _ (sheet : List ℕ) (s : Session) (l : Lines) where
-  pub sheet-full : (holds (hasRoom l) → ⊥) → runSheet sheet s l ≡ ended s l 0 0 1
-  unfolding runSheet
-  sheet-full unmet = choose-yes (not (hasRoom l)) _ _ unmet
-
   module _ (room : holds (hasRoom l)) where
     pub sheet-unsound : (holds (sound s) → ⊥) → runSheet sheet s l ≡ endedBy s l 0 0 2
     unfolding runSheet
@@ -112,3 +108,13 @@ module _ (sheet : List ℕ) (s : Session) (l : Lines) where
     unfolding runSheet
     sheet-runs is z =
         choose-no (not (hasRoom l)) _ _ (λ f. f room) ∙ choose-no (not (sound s)) _ _ (λ f. f is) ∙ choose-no (not (headRefusal sheet ≐ 0)) _ _ (λ f. f z)
+
+-- a sheet from a place on
+module _ (sheet : List ℕ) (k : ℕ) (s : Session) (l : Lines) where
+  pub run-start : runAt sheet 0 k s l ≡ runSheet sheet s l
+  unfolding runAt
+  run-start = choose-yes (0 ≐ 0) (runSheet sheet s l) _ refl
+
+  pub run-behind : (at : ℕ) → (at ≡ 0 → ⊥) → runAt sheet at k s l ≡ runFrom sheet (length sheet) at k s l
+  unfolding runAt
+  run-behind at f = choose-no (at ≐ 0) (runSheet sheet s l) _ f

@@ -1,7 +1,7 @@
--- A sheet run from a fresh session is a list of single operations: demand 3 holds of those that it ran, and they leave the
--- session that the run leaves.
+-- A sheet's run is a list of single operations: they leave the session that the run leaves, and demand 3 holds of them and of the
+-- calls before.
 use Prim.Native.Nat.{ℕ, zero, suc, _+_}
-use mathlib.Core.List.{List, [], _∷_}
+use mathlib.Core.List.{List, [], _∷_, _++_}
 use mathlib.Core.Path.{_≡_, refl, ap, sym, _∙_}
 use lib.ListN.{length}
 use Rattle.session.specs.Table.{Session}
@@ -14,6 +14,7 @@ use Rattle.rules.specs.Demand.{Demand3, next, run, sessionAfter}
 use Rattle.record.specs.Reading.{recordAt}
 use Rattle.record.specs.Sheet.{headRefusal, firstRecord}
 use Rattle.laws.specs.Demand.{demand-3}
+use Rattle.laws.specs.Prefixes.{session-parts}
 use Rattle.sheet.specs.Run.{Lines, hasRoom, withLine, Run, endedBy, runFrom, runSheet}
 
 -- The operations that a run ran, by the same recursion as `runFrom`.
@@ -60,6 +61,16 @@ sheet-leaves sheet s l =
     (alike (not (sound s)) _ _ _ _ s refl
     (alike (not (headRefusal sheet ≐ 0)) _ _ _ _ s refl (ran-leaves sheet (length sheet) (firstRecord sheet) 0 s l)))
 
+-- A sheet run on what any list of calls left: its records are further calls of the same list.
+pub sheet-further : (os : List Operation) (sheet : List ℕ) (l : Lines)
+    → (runSheet sheet (sessionAfter os) l .session ≡ sessionAfter (os ++ ranSheet sheet (sessionAfter os) l))
+    × Demand3 (os ++ ranSheet sheet (sessionAfter os) l)
+sheet-further os sheet l =
+    let more = ranSheet sheet (sessionAfter os) l in
+    (sheet-leaves sheet (sessionAfter os) l ∙ sym (session-parts os more), demand-3 (os ++ more))
+
+-- From fresh.
 pub sheet-demand : (sheet : List ℕ) (l : Lines)
     → (runSheet sheet freshSession l .session ≡ sessionAfter (ranSheet sheet freshSession l)) × Demand3 (ranSheet sheet freshSession l)
-sheet-demand sheet l = (sheet-leaves sheet freshSession l, demand-3 (ranSheet sheet freshSession l))
+unfolding run
+sheet-demand sheet l = sheet-further [] sheet l

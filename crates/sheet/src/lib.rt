@@ -8,16 +8,17 @@ ghost use Rattle.session.specs.Fresh.{freshSession};
 ghost use Rattle.rules.specs.Formula.{holds, test};
 ghost use Rattle.rules.specs.Sound.{sound, kept};
 ghost use Rattle.rules.specs.Step.{step};
-ghost use Rattle.sheet.specs.Run.{hasRoom, withLine, runSheet};
-ghost use Rattle.sheet.specs.Going.{linesOf, Goes, Ends, runOf};
-ghost use Rattle.sheet.specs.Whole.{Ran};
-ghost use Rattle.sheet.specs.Closing.{closed};
+ghost use Rattle.sheet.specs.Run.{hasRoom, withLine, runAt};
+ghost use Rattle.sheet.specs.Going.{linesOf, lent, Goes, Ends, runOf};
+ghost use Rattle.sheet.specs.Whole.{Ran, startAt};
+ghost use Rattle.sheet.specs.Closing.{Closes};
 
 mod counts;
-mod printing;
+mod parts;
 mod settled;
 
-pub use printing::print_run;
+pub use parts::run_part;
+pub use parts::run_part_from;
 use record::Place;
 use rules::Answer;
 use rules::Operation;
@@ -34,6 +35,27 @@ pub struct Ended {
     pub place: usize,
     pub number: u64,
     pub ending: u64,
+}
+
+// How the last line was written: the refusal, 0 if it was, and the length of the lines.
+pub struct Closed {
+    pub refused: u64,
+    pub used: usize,
+}
+
+// Where a sheet's lines go on: at a place of it, behind so many records (place 0 is its first number), or at the last line; or
+// nothing is left.
+pub enum Next {
+    At(usize, u64),
+    LastLine,
+    Nothing,
+}
+
+// A part of a sheet's lines: the refusal, 0 if there was none, the length of the lines, and where to go on.
+pub struct Part {
+    pub refused: u64,
+    pub used: usize,
+    pub next: Next,
 }
 
 // What a record leads to: the place of the next one and the length of the lines, or the length of the lines and the refusal
@@ -54,6 +76,16 @@ fn has_room(lines: &[u8], used: usize) -> bool
         return false;
     }
     true
+}
+
+// Check 1: whether the memory is long enough for a session, and a line may be written behind the lines already there.
+fn is_lent(memory: &[u64], lines: &[u8], used: usize) -> bool
+    ensures { λ r. ⌜ r ≡ test (lent (now (memory .entry)) (linesOf (now (lines .entry)) used)) ⌝ }
+{
+    if memory.len() < session::names::WORDS {
+        return false;
+    }
+    has_room(lines, used)
 }
 
 // Whether the session is sound; `sure` says that the caller knows it to be kept, so that it need not be looked at.
@@ -179,31 +211,38 @@ fn run_records(
     }
 }
 
-// Runs a sheet on memory of sufficient length. Internal; `sure` as in `is_admitted`.
-fn run_whole(sheet: &[u8], memory: &mut [u64], lines: &mut [u8], used: usize, sure: bool) -> Ended
+// Where the records begin from a place on: at place 0 the session and the sheet's first number are looked at. Internal.
+fn start_at(sheet: &[u8], at: usize, memory: &[u64], sure: bool) -> Place
     requires { ⌜ (words ≤ length (now memory)) × (sure ≡ true → holds (kept (read (now memory)))) ⌝ }
-    ensures { λ r. ⌜
-        Ends (now (memory .entry)) (now (memory .exit)) (now (lines .exit)) r (runSheet (now (sheet .entry)) (read (now (memory .entry))) (linesOf (now (lines .entry)) used))
-        ⌝ }
+    ensures { λ r. ⌜ r ≡ startAt (now (sheet .entry)) at (read (now (memory .entry))) ⌝ }
 {
-    if !has_room(lines, used) {
-        return Ended {
-            used,
-            place: 0,
-            number: 0,
-            ending: refusals::NO_ROOM,
-        };
+    if at != 0 {
+        return Place::Behind(at);
     }
     if !is_admitted(memory, sure) {
-        let last = put_answer(lines, used, 0, refusals::NOT_SOUND, 0);
-        return Ended {
-            used: last,
-            place: 0,
-            number: 0,
-            ending: refusals::NOT_SOUND,
-        };
+        return Place::Refused(refusals::NOT_SOUND);
     }
-    match record::read_head(sheet) {
+    record::read_head(sheet)
+}
+
+// Runs a sheet from a place on, before which there are so many records. Internal; `sure` as in `is_admitted`.
+fn run_at(
+    sheet: &[u8],
+    at: usize,
+    done: u64,
+    memory: &mut [u64],
+    lines: &mut [u8],
+    used: usize,
+    sure: bool,
+) -> Ended
+    requires { ⌜
+        holds (lent (now memory) (linesOf (now lines) used)) × (sure ≡ true → holds (kept (read (now memory)))) × (done ≤ at)
+        ⌝ }
+    ensures { λ r. ⌜
+        Ends (now (memory .entry)) (now (memory .exit)) (now (lines .exit)) r (runAt (now (sheet .entry)) at done (read (now (memory .entry))) (linesOf (now (lines .entry)) used))
+        ⌝ }
+{
+    match start_at(sheet, at, memory, sure) {
         Place::Refused(n) => {
             let last = put_answer(lines, used, 0, n, 0);
             Ended {
@@ -213,7 +252,7 @@ fn run_whole(sheet: &[u8], memory: &mut [u64], lines: &mut [u8], used: usize, su
                 ending: n,
             }
         }
-        Place::Behind(first) => run_records(sheet, first, 0, memory, lines, used, sure),
+        Place::Behind(first) => run_records(sheet, first, done, memory, lines, used, sure),
     }
 }
 
@@ -236,7 +275,7 @@ pub fn run(sheet: &[u8], memory: &mut [u64], lines: &mut [u8], used: usize) -> E
         Ran (now (sheet .entry)) (now (memory .entry)) (now (memory .exit)) (now (lines .entry)) (now (lines .exit)) used r (read (now (memory .entry)))
         ⌝ }
 {
-    if memory.len() < session::names::WORDS {
+    if !is_lent(memory, lines, used) {
         return Ended {
             used,
             place: 0,
@@ -245,17 +284,17 @@ pub fn run(sheet: &[u8], memory: &mut [u64], lines: &mut [u8], used: usize) -> E
         };
     }
     let sure = is_kept(memory);
-    run_whole(sheet, memory, lines, used, sure)
+    run_at(sheet, 0, 0, memory, lines, used, sure)
 }
 
-// Runs a sheet from a fresh session, which is written into lent memory first. Every session from there on is kept, so that
-// none is looked at again.
+// Runs a sheet from a fresh session, which is written into lent memory after check 1. Every session from there on is kept, so
+// that none is looked at again.
 pub fn run_fresh(sheet: &[u8], memory: &mut [u64], lines: &mut [u8], used: usize) -> Ended
     ensures { λ r. ⌜
         Ran (now (sheet .entry)) (now (memory .entry)) (now (memory .exit)) (now (lines .entry)) (now (lines .exit)) used r freshSession
         ⌝ }
 {
-    if !session::write_fresh(memory) {
+    if !is_lent(memory, lines, used) {
         return Ended {
             used,
             place: 0,
@@ -263,22 +302,26 @@ pub fn run_fresh(sheet: &[u8], memory: &mut [u64], lines: &mut [u8], used: usize
             ending: refusals::NO_ROOM,
         };
     }
-    run_whole(sheet, memory, lines, used, true)
+    session::write_fresh(memory);
+    run_at(sheet, 0, 0, memory, lines, used, true)
 }
 
-// Writes the last line behind the lines already there, and answers their length. Under check 1 (no room for a line, or memory
-// too short for a session) nothing is written.
-pub fn put_last_line(memory: &[u64], lines: &mut [u8], used: usize) -> usize
-    ensures { λ r. ⌜ linesOf (now (lines .exit)) r ≡ closed (now (memory .entry)) (linesOf (now (lines .entry)) used) ⌝ }
+// Writes the last line behind the lines already there. Under check 1 (no room for a line, or memory too short for a session)
+// nothing is written.
+pub fn put_last_line(memory: &[u64], lines: &mut [u8], used: usize) -> Closed
+    ensures { λ r. ⌜ Closes (now (memory .entry)) (now (lines .entry)) (now (lines .exit)) used r ⌝ }
 {
-    if memory.len() < session::names::WORDS {
-        return used;
-    }
-    if !has_room(lines, used) {
-        return used;
+    if !is_lent(memory, lines, used) {
+        return Closed {
+            refused: refusals::NO_ROOM,
+            used,
+        };
     }
     let tasks = counts::live_tasks(memory);
     let links = counts::undelivered_links(memory);
     let dropped = session::get(memory, Field::Dropped, 0);
-    lines::put_line(lines, used, tasks, links, dropped)
+    Closed {
+        refused: 0,
+        used: lines::put_line(lines, used, tasks, links, dropped),
+    }
 }

@@ -36,7 +36,8 @@ fn are_linked_up(s: &[u64], n: u64, m: u64) -> bool
     requires { ⌜ (words ≤ length (now s)) × Counted (read (now s)) n m × Linked (read (now s)) ⌝ }
     ensures { λ r. ⌜ r ≡ test (linkedUp (read (now (s .entry)))) ⌝ }
 {
-    let row = slots::links_of(s, m);
+    let mut row: [u16; 8208] = [0; 8208];
+    slots::note_links(s, &mut row, m);
     if slots::are_single(s, &row, m) {
         return slots::are_slots(s, &row, n);
     }

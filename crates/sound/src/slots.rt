@@ -15,22 +15,29 @@ use reading::of_slot;
 use session::Field;
 use session::names;
 
+// A link number, which the row of 8,208 keeps in two bytes: eight would take half of a small thread's stack.
+fn wide(l: u16) -> u64
+    ensures { λ r. ⌜ r ≡ l ⌝ }
+{
+    l as u64
+}
+
 // Notes link l at the slot that it leads to.
-fn note_link(s: &[u64], row: &mut [u64; 8208], l: u64)
+fn note_link(s: &[u64], row: &mut [u16; 8208], l: u64)
     requires { ⌜ (words ≤ length (now s)) × (1 ≤ l) × (read (now s) LinkTarget l ≤ 512) × (read (now s) LinkSlot l < 16)
-        × Row (now row) 8208 (lastLink (read (now s)) l) ⌝ }
+        × Row (now row) 8208 (lastLink (read (now s)) l) × (l ≤ 2048) ⌝ }
     ensures { λ r. ⌜ Row (now (row .exit)) 8208 (lastLink (read (now (s .entry))) (l + 1)) ⌝ }
 {
     let target = of_link(s, Field::LinkTarget, l);
     let slot = of_link(s, Field::LinkSlot, l);
     if of_object(s, Field::Kind, target) == names::TASK {
         let i = (target * 16 + slot) as usize;
-        row[i] = l;
+        row[i] = l as u16;
     }
 }
 
-// Notes each link at the slot that it leads to.
-fn note_links(s: &[u64], row: &mut [u64; 8208], n: u64)
+// Notes each link at the slot that it leads to: for each slot of a task the last link that leads to it, or 0.
+pub fn note_links(s: &[u64], row: &mut [u16; 8208], n: u64)
     requires { ⌜ (words ≤ length (now s)) × (n ≤ 2048) × (n ≡ read (now s) Links 0) × Low (read (now s)) × Row (now row) 8208 (λ p. 0) ⌝ }
     ensures { λ r. ⌜ Row (now (row .exit)) 8208 (lastLink (read (now (s .entry))) (n + 1)) ⌝ }
 {
@@ -41,18 +48,8 @@ fn note_links(s: &[u64], row: &mut [u64; 8208], n: u64)
     }
 }
 
-// For each slot of a task the last link that leads to it, or 0.
-pub fn links_of(s: &[u64], n: u64) -> [u64; 8208]
-    requires { ⌜ (words ≤ length (now s)) × (n ≤ 2048) × (n ≡ read (now s) Links 0) × Low (read (now s)) ⌝ }
-    ensures { λ r. ⌜ Row r 8208 (lastLink (read (now (s .entry))) (n + 1)) ⌝ }
-{
-    let mut row: [u64; 8208] = [0; 8208];
-    note_links(s, &mut row, n);
-    row
-}
-
 // No later link leads to the slot of a task that link l leads to.
-fn is_single(s: &[u64], row: &[u64; 8208], l: u64) -> bool
+fn is_single(s: &[u64], row: &[u16; 8208], l: u64) -> bool
     requires { ⌜ (words ≤ length (now s)) × (1 ≤ l) × (read (now s) LinkTarget l ≤ 512) × (read (now s) LinkSlot l < 16)
         × Row (now row) 8208 (lastLink (read (now s)) (read (now s) Links 0 + 1)) ⌝ }
     ensures { λ r. ⌜ r ≡ test (single (read (now (s .entry))) l) ⌝ }
@@ -63,11 +60,11 @@ fn is_single(s: &[u64], row: &[u64; 8208], l: u64) -> bool
         return true;
     }
     let i = (target * 16 + slot) as usize;
-    row[i] == l
+    wide(row[i]) == l
 }
 
 // At most one link leads to a slot of a task.
-pub fn are_single(s: &[u64], row: &[u64; 8208], n: u64) -> bool
+pub fn are_single(s: &[u64], row: &[u16; 8208], n: u64) -> bool
     requires { ⌜ (words ≤ length (now s)) × (n ≤ 2048) × (n ≡ read (now s) Links 0) × Low (read (now s))
         × Row (now row) 8208 (lastLink (read (now s)) (read (now s) Links 0 + 1)) ⌝ }
     ensures { λ r. ⌜ r ≡ test (each (n + 1) (single (read (now (s .entry))))) ⌝ }
@@ -139,15 +136,15 @@ fn is_slot_by(s: &[u64], m: u64, h: u64, j: u64) -> bool
     is_no_slot(s, h * 16 + j)
 }
 
-fn is_slot(s: &[u64], row: &[u64; 8208], h: u64, j: u64) -> bool
+fn is_slot(s: &[u64], row: &[u16; 8208], h: u64, j: u64) -> bool
     requires { ⌜ (words ≤ length (now s)) × (h ≤ 512) × (j < 16) × Row (now row) 8208 (lastLink (read (now s)) (read (now s) Links 0 + 1)) ⌝ }
     ensures { λ r. ⌜ r ≡ test (slotAt (read (now (s .entry))) h j) ⌝ }
 {
     let i = (h * 16 + j) as usize;
-    is_slot_by(s, row[i], h, j)
+    is_slot_by(s, wide(row[i]), h, j)
 }
 
-fn are_slots_of(s: &[u64], row: &[u64; 8208], h: u64) -> bool
+fn are_slots_of(s: &[u64], row: &[u16; 8208], h: u64) -> bool
     requires { ⌜ (words ≤ length (now s)) × (h ≤ 512) × Row (now row) 8208 (lastLink (read (now s)) (read (now s) Links 0 + 1)) ⌝ }
     ensures { λ r. ⌜ r ≡ test (slotsAt (read (now (s .entry))) h) ⌝ }
 {
@@ -161,7 +158,7 @@ fn are_slots_of(s: &[u64], row: &[u64; 8208], h: u64) -> bool
 }
 
 // Every slot is as it should be.
-pub fn are_slots(s: &[u64], row: &[u64; 8208], n: u64) -> bool
+pub fn are_slots(s: &[u64], row: &[u16; 8208], n: u64) -> bool
     requires { ⌜ (words ≤ length (now s)) × (n ≤ 512) × Row (now row) 8208 (lastLink (read (now s)) (read (now s) Links 0 + 1)) ⌝ }
     ensures { λ r. ⌜ r ≡ test (each (n + 1) (slotsAt (read (now (s .entry))))) ⌝ }
 {

@@ -1,3 +1,6 @@
 pub mod Text
 pub mod TextLaws
 pub mod SheetLength
+pub mod Put
+pub mod Printed
+pub mod PrintedLaws

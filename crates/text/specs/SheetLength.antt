@@ -7,13 +7,12 @@ use lib.ListN.{length, length-append}
 use Rattle.number.specs.Number.{limit32, encode}
 use Rattle.number.specs.Encode.{Groups, groups, encode-one, encode-several}
 use Rattle.number.specs.Laws.{length-some}
-use Rattle.rules.specs.Formula.{Formula._≐_, Formula._≼_}
-use Rattle.rules.specs.FormulaLaws.{Case, decide, Case.it-does, Case.it-does-not, choose-case}
-use Rattle.text.specs.Text.{kindOf, longer, afterWord, afterComment, after, isWord, ended, numbersFrom, numbers, badLine, encodeAll, sheetOf, answer}
-use Rattle.text.specs.TextLaws.{encodeAll-none, encodeAll-one, encodeAll-append, short-answer, bad-answer, good-answer}
+use Rattle.rules.specs.Formula.{Formula._≼_}
+use Rattle.rules.specs.FormulaLaws.{choose-case}
+use Rattle.text.specs.Text.{kindOf, longer, afterWord, afterComment, after, isWord, ended, numbersFrom, numbers, encodeAll, sheetOf}
+use Rattle.text.specs.TextLaws.{encodeAll-none, encodeAll-one, encodeAll-append}
 use Rattle.text.specs.declared.Kind.{Kind}
 use Rattle.text.specs.declared.Kind.the-variants.{Newline, Blank, Hash, Digit, Other}
-use Rattle.text.specs.declared.Typed.the-variants.{Sheet}
 use Rattle.text.specs.declared.Mode.{Mode}
 use Rattle.text.specs.declared.Mode.the-variants.{Between, Word, Comment, Bad}
 
@@ -116,18 +115,3 @@ from-covered m (b ∷ bs) =
 pub sheet-short : (text : List ℕ) → length (sheetOf text) ≤ length text
 unfolding sheetOf numbers
 sheet-short text = omega (arith, from-covered Between text)
-
--- What was written lies in the memory that was lent.
-pub sheet-fits : (text out : List ℕ) (n : ℕ) → answer text out ≡ Sheet n → n ≤ length out
-sheet-fits text out n e = go (decide (length text ≼ length out)) (decide (badLine text ≐ 0))
-  where
-    go : Case (length text ≼ length out) → Case (badLine text ≐ 0) → n ≤ length out
-    go (it-does room) (it-does good) =
-        let same : n ≡ length (sheetOf text) = cc (good-answer text out room good) in
-        omega (arith, sheet-short text)
-    go (it-does room) (it-does-not bad) =
-        let no : _≡_ {A = ℕ} 0 1 = cc (bad-answer text out room (omega (arith, bad))) in
-        absurd (omega arith)
-    go (it-does-not short) c =
-        let no : _≡_ {A = ℕ} 0 1 = cc (short-answer text out (omega (arith, short))) in
-        absurd (omega arith)

@@ -11,11 +11,12 @@ use lib.Seq.{drop-cons}
 use Rattle.number.specs.Number.{limit32, encode, splice}
 use Rattle.number.specs.Splice.{splice-none}
 use Rattle.rules.specs.Formula.{choose, test, Formula._≐_, Formula._≼_, Formula._and_, Formula._or_}
-use Rattle.rules.specs.FormulaLaws.{choose-yes, choose-no}
+use Rattle.rules.specs.FormulaLaws.{Case, decide, choose-yes, choose-no, Case.it-does, Case.it-does-not}
 use Rattle.text.specs.Text.{kindOf, longer, after, isBad, isWord, ended, numbersFrom, numbers, lineAfter, badLineFrom, badLine, encodeAll, sheetOf, given, answer, memory}
 use Rattle.text.specs.declared.Kind.the-variants.{Newline, Blank, Hash, Digit, Other}
 use Rattle.text.specs.declared.Mode.{Mode}
 use Rattle.text.specs.declared.Mode.the-variants.{Between, Word, Bad}
+use Rattle.text.specs.declared.Typed.{Typed}
 use Rattle.text.specs.declared.Typed.the-variants.{Sheet, BadLine, NoRoom}
 
 -- A byte.
@@ -177,3 +178,19 @@ module _ (text out : List ℕ) where
     pub good-memory : badLine text ≡ 0 → memory text out ≡ splice out 0 (sheetOf text)
     unfolding memory given
     good-memory e = choose-yes (length text ≼ length out) _ _ room ∙ choose-yes (badLine text ≐ 0) _ _ e
+
+-- What each answer says of the text and of the memory.
+abbrev pub Says : List ℕ → List ℕ → Typed → Type 0
+Says text out (Sheet n) = (badLine text ≡ 0) × (n ≡ length (sheetOf text)) × (memory text out ≡ splice out 0 (sheetOf text))
+Says text out (BadLine line) = (0 < line) × (line ≡ badLine text) × (memory text out ≡ out)
+Says text out NoRoom = length out < length text
+
+pub says : (text out : List ℕ) → Says text out (answer text out)
+says text out = go (decide (length text ≼ length out)) (decide (badLine text ≐ 0))
+  where
+    go : Case (length text ≼ length out) → Case (badLine text ≐ 0) → Says text out (answer text out)
+    go (it-does room) (it-does good) = rw (good-answer text out room good) (good, refl, good-memory text out room good)
+    go (it-does room) (it-does-not bad) =
+        let line : 0 < badLine text = omega (arith, bad) in
+        rw (bad-answer text out room line) (line, refl, bad-memory text out room line)
+    go (it-does-not short) c = let none : length out < length text = omega (arith, short) in rw (short-answer text out none) none

@@ -7,6 +7,12 @@ ghost use lib.ListN.{length};
 ghost use Rattle.number.specs.Number.{encode, splice};
 ghost use Rattle.text.specs.Text.{kindOf, longer, afterWord, afterComment, after, isBad, isWord, ended, encodeAll, sheetOf, badLine, answer, memory};
 
+mod printed;
+
+pub use printed::Printed;
+pub use printed::put_printed;
+pub use printed::write_bytes;
+
 // What a byte is to a reader of text.
 pub enum Kind {
     Newline,

@@ -5,12 +5,10 @@ use mathlib.Core.Path.{_≡_, refl, ap, sym, subst, _∙_}
 use native.Mathlib.Omega.{arith}
 use lib.ListN.{length, getD}
 use Rattle.number.specs.Number.{AreBytes, encode}
-use Rattle.decimal.specs.Decimal.{decimal}
 use Rattle.rules.specs.declared.Operation.{Operation}
-use Rattle.rules.specs.Formula.{holds, test, not, choose, Formula.each, Formula._≐_, Formula._≼_}
+use Rattle.rules.specs.Formula.{holds, test, not, Formula.each, Formula._≐_, Formula._≼_}
 use Rattle.rules.specs.FormulaLaws.{Case, decide, passed, choose-yes, choose-no, Case.it-does, Case.it-does-not}
 use Rattle.rules.specs.Step.{arg}
-use Rattle.record.specs.declared.Record.{Record}
 use Rattle.record.specs.declared.Place.the-variants.{Behind, Refused}
 use Rattle.record.specs.Reading.{fieldCount, placed, recordAt}
 use Rattle.record.specs.Writing.{fieldBytes, recordBytes, isRecordable, within}
@@ -19,6 +17,8 @@ use Rattle.record.specs.Sheet.{Contents, stopped, followed, recordsFrom, record
 use Rattle.record.specs.SheetLaws.{AllRecordable, sheet-again, AllRecordable.none, AllRecordable.one}
 use Rattle.text.specs.Text.{kindOf, longer, afterWord, after, isBad, isWord, ended, numbers, badLine, encodeAll, sheetOf}
 use Rattle.text.specs.TextLaws.{encodeAll-none, encodeAll-one, encodeAll-append}
+use Rattle.text.specs.Printed.{most, printedOf}
+use Rattle.text.specs.PrintedLaws.{printed-sheet}
 use Rattle.text.specs.declared.Mode.the-variants.{Between, Word, Comment}
 use Rattle.listing.specs.Names.{nameOf}
 use Rattle.listing.specs.Listing.{one as firstLine, fieldText, fieldsText, line, lines, recordsText, textOf}
@@ -168,3 +168,11 @@ text-again sheet are e =
           ∙ ap (λ (bs : List ℕ). encode 1 ++ bs) (all-bytes ops)
           ∙ sheet-again sheet are e;
     }
+
+-- What `sheet_to_text` prints of such a sheet, typed again and not too long, makes `text_to_sheet` print the sheet.
+pub printed-again : (sheet : List ℕ)
+    → AreBytes sheet
+    → contents sheet .refused ≡ 0
+    → length (textOf sheet) ≤ most
+    → printedOf (textOf sheet) ≡ sheet
+printed-again sheet are e h = let again = text-again sheet are e in printed-sheet (textOf sheet) h (again .good) ∙ again .same

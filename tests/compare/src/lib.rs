@@ -2,12 +2,15 @@
 //!
 //! `library` calls the proved engine through its C functions, `layout` reads where things stand in a session's memory,
 //! `words` turns a session of the second engine into such memory and back, `pair` carries out calls on both, and
-//! `judge` has both look whether words are sound. `stages` makes sessions of a wanted size.
+//! `judge` has both look whether words are sound. `runs` has the second engine run a sheet over lent memory, `damage`
+//! changes words at random, and `stages` makes sessions of a wanted size.
 
+pub mod damage;
 pub mod judge;
 pub mod layout;
 pub mod library;
 pub mod pair;
+pub mod runs;
 pub mod stages;
 pub mod words;
 

@@ -1,4 +1,4 @@
-//! The C functions of include/faltxigor.h, and a safe wrapper.
+//! The C functions of include/faltxigor.h, the engine without check 2 beside them, and a safe wrapper.
 
 use crate::layout::WORDS;
 use second::{Answer, Operation};
@@ -18,7 +18,29 @@ extern "C" {
         f4: u64,
         made: *mut u64,
     ) -> u64;
-    fn faltxigor_apply_sound(
+    fn faltxigor_run(
+        sheet: *const u8,
+        sheet_bytes: usize,
+        memory: *mut u64,
+        words: usize,
+        lines: *mut u8,
+        line_bytes: usize,
+        used: *mut usize,
+        place: *mut usize,
+        number: *mut u64,
+    ) -> u64;
+    fn faltxigor_last_line(
+        memory: *const u64,
+        words: usize,
+        lines: *mut u8,
+        line_bytes: usize,
+        used: *mut usize,
+    ) -> u64;
+}
+
+// Not of the header and offered to nobody: the crate `unchecked`, which is for measuring and comparison alone.
+extern "C" {
+    fn unchecked_apply(
         memory: *mut u64,
         words: usize,
         code: u64,
@@ -29,6 +51,15 @@ extern "C" {
         f4: u64,
         made: *mut u64,
     ) -> u64;
+}
+
+/// How a sheet's run ended: the length of the lines, the place in the sheet, the record begun last, and the refusal.
+#[derive(Clone, Copy, Debug, PartialEq, Eq)]
+pub struct Ended {
+    pub used: usize,
+    pub place: usize,
+    pub number: u64,
+    pub ending: u64,
 }
 
 /// What is known of the words, for calls that skip checks 1 and 2.
@@ -71,14 +102,14 @@ impl Memory {
         self.known.set(other.known.get());
     }
 
-    /// Write a fresh session; false if the memory is too short.
-    pub fn fresh(&mut self) -> bool {
+    /// Write a fresh session: the refusal, 0 if done.
+    pub fn fresh(&mut self) -> u64 {
         // SAFETY: the pointer and the length are those of one vector, which is lent for the call.
-        let written = unsafe { faltxigor_fresh(self.words.as_mut_ptr(), self.words.len()) };
-        if written == 1 {
+        let refused = unsafe { faltxigor_fresh(self.words.as_mut_ptr(), self.words.len()) };
+        if refused == 0 {
             self.known.set(Known::Kept);
         }
-        truth(written)
+        refused
     }
 
     pub fn sound(&self) -> bool {
@@ -109,8 +140,41 @@ impl Memory {
         let mut made = u64::MAX;
         let (memory, words) = (self.words.as_mut_ptr(), self.words.len());
         // SAFETY: as in `apply`, and the words are a sound session of sufficient length.
-        let refused = unsafe { faltxigor_apply_sound(memory, words, operation.code, f0, f1, f2, f3, f4, &mut made) };
+        let refused = unsafe { unchecked_apply(memory, words, operation.code, f0, f1, f2, f3, f4, &mut made) };
         self.after(refused, made)
+    }
+
+    /// A sheet on any words, its lines behind the used part of `lines`.
+    pub fn run(&mut self, sheet: &[u8], lines: &mut [u8], used: usize) -> Ended {
+        // Not what they are to be, so that a call that forgets to write one is seen.
+        let mut ended = Ended { used, place: usize::MAX, number: u64::MAX, ending: u64::MAX };
+        let (memory, words) = (self.words.as_mut_ptr(), self.words.len());
+        // SAFETY: as in `fresh`, of three slices; the numbers are variables of their own.
+        ended.ending = unsafe {
+            faltxigor_run(
+                sheet.as_ptr(),
+                sheet.len(),
+                memory,
+                words,
+                lines.as_mut_ptr(),
+                lines.len(),
+                &mut ended.used,
+                &mut ended.place,
+                &mut ended.number,
+            )
+        };
+        if self.known.get() == Known::SoundNow {
+            self.known.set(Known::Nothing);
+        }
+        ended
+    }
+
+    /// The last line behind the used part of `lines`: the refusal and the lines' length.
+    pub fn last_line(&self, lines: &mut [u8], mut used: usize) -> (u64, usize) {
+        let (memory, words) = (self.words.as_ptr(), self.words.len());
+        // SAFETY: as in `run`; the words are only read.
+        let refused = unsafe { faltxigor_last_line(memory, words, lines.as_mut_ptr(), lines.len(), &mut used) };
+        (refused, used)
     }
 
     /// The answer; an accepted call may leave a session that has to be asked about again.

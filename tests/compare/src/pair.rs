@@ -31,7 +31,7 @@ impl Pair {
         let mut words = vec![u64::MAX; WORDS];
         words.extend(BEHIND);
         let mut memory = Memory::new(words);
-        assert!(memory.fresh());
+        assert_eq!(memory.fresh(), 0);
         let pair = Pair::with(Session::fresh(), memory);
         pair.compare("the fresh session");
         pair

@@ -105,7 +105,7 @@ impl Grown {
     /// The session in memory, made by the library from the same calls.
     pub fn memory(&self) -> Memory {
         let mut memory = Memory::new(vec![0; WORDS]);
-        assert!(memory.fresh());
+        assert_eq!(memory.fresh(), 0);
         for call in &self.calls {
             assert_eq!(memory.apply_sound(call).refused, 0, "{call:?}");
         }

@@ -18,7 +18,7 @@ fn too_short() {
         for words in [session[..length].to_vec(), vec![0; length], vec![u64::MAX; length]] {
             let mut memory = Memory::new(words.clone());
             assert!(!memory.sound(), "{length} words");
-            assert!(!memory.fresh(), "{length} words");
+            assert_eq!(memory.fresh(), 1, "{length} words");
             for operation in some_calls() {
                 assert_eq!(memory.apply(&operation), Answer { refused: 1, made: 0 }, "{length} words: {operation:?}");
             }
@@ -34,7 +34,7 @@ fn long_enough() {
         let behind = |place: usize| (place as u64).wrapping_mul(0x9E37_79B9_7F4A_7C15);
         let mut memory = Memory::new((0..length).map(behind).collect());
         assert!(!memory.sound());
-        assert!(memory.fresh(), "{length} words");
+        assert_eq!(memory.fresh(), 0, "{length} words");
         let mut session = Session::fresh();
         let calls = [&[10, 2][..], &[11, 2], &[1, 2, 1], &[2, 2, 3, 17, 0, 1], &[4, 2, 1], &[9, 1], &[12, 2, 6]];
         for (number, numbers) in calls.iter().enumerate() {

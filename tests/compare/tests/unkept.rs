@@ -2,7 +2,9 @@
 //! "Kept").
 
 use compare::pair::{Pair, Through};
-use compare::words::is_sound;
+use compare::runs;
+use compare::words::{is_sound, to_words};
+use compare::Memory;
 use second::steer::random_list;
 use second::*;
 
@@ -71,4 +73,17 @@ fn in_random_sessions() {
     }
     println!("unsound and sound after it: {found:?}");
     assert!(found[0] > 0 && found[1] > 0);
+}
+
+/// A run looks at such a session at each record: the delivery is accepted, and the next record meets 2.
+#[test]
+fn a_run_looks_again() {
+    let mut words = to_words(&unsettled());
+    let mut memory = Memory::new(words.clone());
+    let sheet = [1, 9, 1, 7, 2, 0];
+    let (mut lines, mut wanted) = ([0; 100], [0; 100]);
+    let ended = memory.run(&sheet, &mut lines, 0);
+    assert_eq!(&lines[..ended.used], b"1 0 0\n2 2 0\n");
+    assert_eq!(ended, runs::run(&mut words, &sheet, &mut wanted, 0));
+    assert!(lines == wanted && memory.words() == words);
 }

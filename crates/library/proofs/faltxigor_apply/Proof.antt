@@ -1,4 +1,4 @@
-use Rattle.library.specs.Called.{operation, accepted-called, refused-called}
+use Rattle.library.specs.Called.{operation, called}
 use borrow.Author.Needs.{needs}
 use Rattle.library.proofs.faltxigor_apply.Statement.{statement}
 use Rattle.library.proofs.faltxigor_apply.Tie as tie
@@ -6,33 +6,19 @@ use Rattle.library.proofs.faltxigor_apply.Tie as tie
 apply-requires : tie.Need-apply-requires
 apply-requires c κs = search needs
 
-enum-known-m : tie.Need-enum-known-m
-enum-known-m c = search needs
-
-enum-known-n : tie.Need-enum-known-n
-enum-known-n c = search needs
+tell-requires : tie.Need-tell-requires
+tell-requires c κs = search needs
 
 same-length : tie.Need-same-length
 same-length c = search needs
 
 returns : tie.Need-returns
 returns c =
-    let a = c .before .before .before .before .before .before .before .before .args in
-    let call = c .before .before .before .before .before .apply in
-    accepted-called (a .memory .now) (call .last .0) (operation (a .code) (a .f0) (a .f1) (a .f2) (a .f3) (a .f4)) (c .before .m .given .0 .0)
-    (rw (c .before .m .given .1) at (call .ensures))
-
-same-length-2 : tie.Need-same-length-2
-same-length-2 c = search needs
-
-returns-2 : tie.Need-returns-2
-returns-2 c =
-    let a = c .before .before .before .before .before .before .before .before .args in
-    let call = c .before .before .before .before .before .apply in
-    refused-called (a .memory .now) (call .last .0) (operation (a .code) (a .f0) (a .f1) (a .f2) (a .f3) (a .f4)) (c .before .n .given .0 .0)
-    (rw (c .before .n .given .1) at (call .ensures))
+    let t = c .tell .ensures in
+    let call = c .before .before .before .before .apply in
+    let a = c .before .before .before .before .before .before .before .args in
+    rw (t .0, t .1)
+    (called (a .memory .now) (call .last .0) (operation (a .code) (a .f0) (a .f1) (a .f2) (a .f3) (a .f4)) (call .result) (call .ensures))
 
 pub faltxigor-apply-spec : {M : Type 1} → statement M
-faltxigor-apply-spec =
-    tie.close
-    (tie.spec apply-requires enum-known-m enum-known-n same-length returns same-length-2 returns-2)
+faltxigor-apply-spec = tie.close (tie.spec apply-requires tell-requires same-length returns)

@@ -1,5 +1,6 @@
 use mathlib.Core.Path.{sym, _∙_}
 use borrow.Author.Needs.{needs}
+use borrow.Author.Tests.{not-true, not-false}
 use Rattle.library.proofs.faltxigor_sound.Statement.{statement}
 use Rattle.library.proofs.faltxigor_sound.Tie as tie
 
@@ -7,10 +8,10 @@ is-sound-requires : tie.Need-is-sound-requires
 is-sound-requires c κs = search needs
 
 returns : tie.Need-returns
-returns c = rw (sym (c .before .is-sound .ensures) ∙ c .if1 .taken)
+returns c = rw (sym (c .before .is-sound .ensures) ∙ not-true _ (c .if1 .taken))
 
 returns-2 : tie.Need-returns-2
-returns-2 c = rw (sym (c .before .is-sound .ensures) ∙ c .if1 .left)
+returns-2 c = rw (sym (c .before .is-sound .ensures) ∙ not-false _ (c .if1 .left))
 
 pub faltxigor-sound-spec : {M : Type 1} → statement M
 faltxigor-sound-spec = tie.close (tie.spec is-sound-requires returns returns-2)

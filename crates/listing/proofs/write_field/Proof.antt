@@ -1,7 +1,8 @@
 -- `listing::write_field` meets its contract: a space, and the number behind it.
 use native.Mathlib.Omega.{arith}
+use Rattle.text.specs.Put.{put-then}
 use Rattle.listing.specs.Listing.{fieldText}
-use Rattle.listing.specs.ListingLaws.{put-then, field-length}
+use Rattle.listing.specs.ListingLaws.{field-length}
 use borrow.Author.Needs.{needs}
 use Rattle.listing.proofs.write_field.Statement.{statement}
 use Rattle.listing.proofs.write_field.Tie as tie

@@ -3,8 +3,9 @@ use Prim.Native.Nat.{ℕ, _+_, _-_, _≤_}
 use mathlib.Core.Path.{_≡_, refl, _∙_}
 use native.Mathlib.Omega.{arith}
 use lib.ListN.{length, getD}
-use Rattle.listing.specs.Listing.{Put, fieldsText}
-use Rattle.listing.specs.ListingLaws.{put-none, put-then, fields-none, fields-more, fields-room}
+use Rattle.text.specs.Put.{Put, put-none, put-then}
+use Rattle.listing.specs.Listing.{fieldsText}
+use Rattle.listing.specs.ListingLaws.{fields-none, fields-more, fields-room}
 use Rattle.listing.proofs.write_fields.Statement.{statement}
 use Rattle.listing.proofs.write_fields.Tie as tie
 

@@ -4,7 +4,7 @@ use mathlib.Core.Path.{ap}
 use native.Mathlib.Omega.{arith}
 use lib.ListN.{length}
 use Rattle.listing.specs.Names.{nameOf, nameless, past-six}
-use Rattle.listing.specs.ListingLaws.{put-none}
+use Rattle.text.specs.Put.{put-none}
 use borrow.Author.Needs.{needs}
 use Rattle.listing.proofs.write_name.Statement.{statement}
 use Rattle.listing.proofs.write_name.Tie as tie

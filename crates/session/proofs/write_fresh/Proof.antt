@@ -1,6 +1,6 @@
 use borrow.Author.Needs.{needs}
 use Prim.Native.Nat.{_<_, _≤_}
-use mathlib.Core.Path.{sym}
+use mathlib.Core.Path.{refl}
 use native.Mathlib.Omega.{arith}
 use lib.ListN.{length}
 use borrow.Author.Tests.{lt-leb, le-leb}
@@ -14,7 +14,7 @@ use Rattle.session.proofs.write_fresh.Tie as tie
 returns : tie.Need-returns
 returns c =
     let short : length (c .before .before .args .s .now) < words = omega arith in
-    (sym (lt-leb words (length (c .before .before .args .s .now)) short), leaves-short (c .before .before .args .s .now) freshSession short)
+    (rw (lt-leb words (length (c .before .before .args .s .now)) short) refl, leaves-short (c .before .before .args .s .now) freshSession short)
 
 clear-requires : tie.Need-clear-requires
 clear-requires c κs = search needs
@@ -35,7 +35,7 @@ returns-2 c =
     let clear = first .before .before .before .before in
     let ws = clear .before .before .before .before .args .s .now in
     let long : words ≤ length ws = omega arith in
-    (sym (le-leb words (length ws) long), leaves-written long (wrote-then (clear .clear .ensures) (wrote-then (first .put-first-objects .ensures) (main .satisfy-main .ensures))))
+    (rw (le-leb words (length ws) long) refl, leaves-written long (wrote-then (clear .clear .ensures) (wrote-then (first .put-first-objects .ensures) (main .satisfy-main .ensures))))
 
 pub write-fresh-spec : {M : Type 1} → statement M
 write-fresh-spec =

@@ -1,74 +1,71 @@
 -- `sheet::put_last_line` meets its contract.
-use Prim.Native.Nat.{ℕ, _+_, _≤_, _<_, _^_}
-use mathlib.Core.Path.{sym, _∙_}
 use native.Mathlib.Omega.{arith}
-use lib.ListN.{length}
+use lib.Dec.{lit<}
+use mathlib.Core.Path.{sym, _∙_}
 use borrow.Author.Tests.{not-true, not-false}
-use Rattle.lines.specs.Line.{line}
-use Rattle.rules.specs.Formula.{holds}
 use Rattle.rules.specs.FormulaLaws.{passed, failed}
-use Rattle.sheet.specs.Run.{hasRoom}
-use Rattle.sheet.specs.Going.{linesOf}
-use Rattle.sheet.specs.Closing.{closes, closed-not, closed-by, line-closing}
+use Rattle.sheet.specs.Going.{linesOf, lent}
+use Rattle.sheet.specs.Closing.{closes-not, closes-by, line-closing}
 use borrow.Author.Needs.{needs}
 use Rattle.sheet.proofs.put_last_line.Statement.{statement}
 use Rattle.sheet.proofs.put_last_line.Tie as tie
 
-returns : tie.Need-returns
-returns c =
-    let a = c .before .before .before .args in
-    closed-not (a .memory .now) (linesOf (a .lines .now) (a .used)) (λ (w : holds (closes (a .memory .now) (linesOf (a .lines .now) (a .used)))). omega (arith, w .0))
-
-has-room-requires : tie.Need-has-room-requires
-has-room-requires c κs = search needs
+is-lent-requires : tie.Need-is-lent-requires
+is-lent-requires c κs = search needs
 
 same-length : tie.Need-same-length
 same-length c = search needs
 
-returns-2 : tie.Need-returns-2
-returns-2 c =
-    let a = c .before .before .before .before .before .before .args in
-    closed-not (a .memory .now) (linesOf (a .lines .now) (a .used)) (λ (w : holds (closes (a .memory .now) (linesOf (a .lines .now) (a .used)))). failed (hasRoom (linesOf (a .lines .now) (a .used))) (sym (c .before .has-room .ensures) ∙ not-true _ (c .if2 .taken)) (w .1))
+returns : tie.Need-returns
+returns c =
+    let a = c .before .before .before .before .before .args in
+    closes-not (a .memory .now) (a .lines .now) (a .used) (failed (lent (a .memory .now) (linesOf (a .lines .now) (a .used))) (sym (c .before .is-lent .ensures) ∙ not-true _ (c .if1 .taken)))
 
 live-tasks-requires : tie.Need-live-tasks-requires
-live-tasks-requires c κs = search needs
+live-tasks-requires c κs =
+    let a = c .before .before .before .before .before .args in
+    (passed (lent (a .memory .now) (linesOf (a .lines .now) (a .used))) (sym (c .before .is-lent .ensures) ∙ not-false _ (c .if1 .left))) .0
 
 undelivered-links-requires : tie.Need-undelivered-links-requires
-undelivered-links-requires c κs = search needs
+undelivered-links-requires c κs =
+    let a = c .before .before .before .before .before .before .args in
+    (passed (lent (a .memory .now) (linesOf (a .lines .now) (a .used))) (sym (c .before .before .is-lent .ensures) ∙ not-false _ (c .before .if1 .left))) .0
 
 get-requires : tie.Need-get-requires
-get-requires c κs = search needs
-
-fits : (used long a b c : ℕ) → used + 32 ≤ long → a ≤ 2049 → b ≤ 2049 → c < 2 ^ 64 → used + length (line a b c) ≤ long
-fits used long a b c h x y z = omega (arith, line-closing a b c x y z)
+get-requires c κs =
+    let a = c .before .before .before .before .before .before .before .args in
+    ((passed (lent (a .memory .now) (linesOf (a .lines .now) (a .used))) (sym (c .before .before .before .is-lent .ensures) ∙ not-false _ (c .before .before .if1 .left))) .0, lit< tt)
 
 put-line-requires : tie.Need-put-line-requires
 put-line-requires c κs =
-    let a = c .before .before .before .before .before .before .before .before .before .before .args in
+    let a = c .before .before .before .before .before .before .before .before .before .args in
     let few = c .before .before .before .live-tasks .ensures .1 in
     let more = c .before .before .undelivered-links .ensures .1 in
-    fits (a .used) _ _ _ _ (passed (hasRoom (linesOf (a .lines .now) (a .used))) (sym (c .before .before .before .before .before .has-room .ensures) ∙ not-false _ (c .before .before .before .before .if2 .left))) (omega (arith, few, more)) (omega (arith, few, more)) (omega arith)
+    let room = (passed (lent (a .memory .now) (linesOf (a .lines .now) (a .used))) (sym (c .before .before .before .before .before .is-lent .ensures) ∙ not-false _ (c .before .before .before .before .if1 .left))) .1 in
+    omega (arith, room, line-closing (c .before .before .before .live-tasks .result) (c .before .before .undelivered-links .result) (c .before .get .result) (omega (arith, few)) (omega (arith, more)) (omega arith))
 
 same-length-2 : tie.Need-same-length-2
 same-length-2 c = search needs
 
-returns-3 : tie.Need-returns-3
-returns-3 c =
-    let a = c .before .before .before .before .before .before .before .before .before .before .before .before .before .args in
+returns-2 : tie.Need-returns-2
+returns-2 c =
+    let a = c .before .before .before .before .before .before .before .before .before .before .before .before .args in
     let w = c .before .before .put-line .ensures in
-    cc (w .0, w .1) ∙ closed-by (a .memory .now) (a .lines .now) (a .used) (omega arith) (passed (hasRoom (linesOf (a .lines .now) (a .used))) (sym (c .before .before .before .before .before .before .before .before .has-room .ensures) ∙ not-false _ (c .before .before .before .before .before .before .before .if2 .left))) _ _ (c .before .before .before .before .before .before .live-tasks .ensures .0) (c .before .before .before .before .before .undelivered-links .ensures .0) _ (c .before .before .before .before .get .ensures)
+    let few = c .before .before .before .before .before .before .live-tasks .ensures in
+    let more = c .before .before .before .before .before .undelivered-links .ensures in
+    closes-by (a .memory .now) (a .lines .now) (a .used) (passed (lent (a .memory .now) (linesOf (a .lines .now) (a .used))) (sym (c .before .before .before .before .before .before .before .before .is-lent .ensures) ∙ not-false _ (c .before .before .before .before .before .before .before .if1 .left))) _ _ _ _ _ (few .0) (more .0) (c .before .before .before .before .get .ensures)
+    (line-closing _ _ _ (omega (arith, few .1)) (omega (arith, more .1)) (omega arith)) (w .1) (w .0)
 
 pub put-last-line-spec : {M : Type 1} → statement M
 put-last-line-spec =
     tie.close
     (tie.spec
-    returns
-    has-room-requires
+    is-lent-requires
     same-length
-    returns-2
+    returns
     live-tasks-requires
     undelivered-links-requires
     get-requires
     put-line-requires
     same-length-2
-    returns-3)
+    returns-2)

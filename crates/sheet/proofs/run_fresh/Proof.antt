@@ -1,50 +1,63 @@
 -- `sheet::run_fresh` meets its contract: the session written is kept.
 use mathlib.Core.Path.{sym, _∙_}
 use borrow.Author.Tests.{not-true, not-false}
-use Rattle.sheet.specs.Whole.{fresh-short, fresh-written, fresh-length, fresh-there, fresh-ran}
+use Rattle.rules.specs.FormulaLaws.{passed, failed}
+use native.Mathlib.Omega.{arith}
+use Rattle.session.specs.Fresh.{freshSession}
+use Rattle.sheet.specs.Going.{linesOf, lent}
+use Rattle.sheet.specs.Whole.{ran-not, ran-whole, ends-start, ends-then, fresh-written, fresh-lent}
 use borrow.Author.Needs.{needs}
 use Rattle.sheet.proofs.run_fresh.Statement.{statement}
 use Rattle.sheet.proofs.run_fresh.Tie as tie
 
-write-fresh-requires : tie.Need-write-fresh-requires
-write-fresh-requires c κs = search needs
+is-lent-requires : tie.Need-is-lent-requires
+is-lent-requires c κs = search needs
 
 same-length : tie.Need-same-length
 same-length c = search needs
 
-returns : tie.Need-returns
-returns c =
-    let a = c .before .before .before .before .before .before .before .before .args in
-    fresh-short (a .sheet .now) (a .memory .now) _ (a .lines .now) (a .used) (sym (c .before .before .before .write-fresh .ensures .0) ∙ not-true _ (c .if1 .taken)) (c .before .before .before .write-fresh .ensures .1)
-
-run-whole-requires : tie.Need-run-whole-requires
-run-whole-requires c κs =
-    let a = c .before .before .before .before .before .before .before .before .before .before .args in
-    let long = sym (c .before .before .before .before .before .write-fresh .ensures .0) ∙ not-false _ (c .before .before .if1 .left) in
-    let w = fresh-written (a .memory .now) _ long (c .before .before .before .before .before .write-fresh .ensures .1) in
-    (fresh-length (a .memory .now) _ long w, λ _. fresh-there (a .memory .now) _ w)
-
 same-length-2 : tie.Need-same-length-2
 same-length-2 c = search needs
+
+returns : tie.Need-returns
+returns c =
+    let a = c .before .before .before .before .before .before .before .args in
+    ran-not (a .sheet .now) (a .memory .now) (a .lines .now) (a .used) freshSession (failed (lent (a .memory .now) (linesOf (a .lines .now) (a .used))) (sym (c .before .is-lent .ensures) ∙ not-true _ (c .if1 .taken)))
+
+write-fresh-requires : tie.Need-write-fresh-requires
+write-fresh-requires c κs = search needs
+
+run-at-requires : tie.Need-run-at-requires
+run-at-requires c κs =
+    let a = c .before .before .before .before .before .before .before .before .before .before .before .before .before .args in
+    let h = passed (lent (a .memory .now) (linesOf (a .lines .now) (a .used))) (sym (c .before .before .before .before .before .before .before .is-lent .ensures) ∙ not-false _ (c .before .before .before .before .before .before .if1 .left)) in
+    let x = fresh-lent (a .memory .now) _ (h .0) (c .before .before .before .before .write-fresh .ensures .1) (linesOf (a .lines .now) (a .used)) (h .1) in
+    (x .0, λ _. x .1, omega arith)
 
 same-length-3 : tie.Need-same-length-3
 same-length-3 c = search needs
 
+same-length-4 : tie.Need-same-length-4
+same-length-4 c = search needs
+
 returns-2 : tie.Need-returns-2
 returns-2 c =
-    let a = c .before .before .before .before .before .before .before .before .before .before .before .before .before .before .before .args in
-    let long = sym (c .before .before .before .before .before .before .before .before .before .before .write-fresh .ensures .0) ∙ not-false _ (c .before .before .before .before .before .before .before .if1 .left) in
-    let w = fresh-written (a .memory .now) _ long (c .before .before .before .before .before .before .before .before .before .before .write-fresh .ensures .1) in
-    fresh-ran (a .sheet .now) (a .memory .now) _ _ (a .lines .now) _ (a .used) _ long w (c .before .before .before .before .run-whole .ensures)
+    let a = c .before .before .before .before .before .before .before .before .before .before .before .before .before .before .before .before .before .before .args in
+    let h = passed (lent (a .memory .now) (linesOf (a .lines .now) (a .used))) (sym (c .before .before .before .before .before .before .before .before .before .before .before .before .is-lent .ensures) ∙ not-false _ (c .before .before .before .before .before .before .before .before .before .before .before .if1 .left)) in
+    let w = fresh-written (a .memory .now) _ (h .0) (c .before .before .before .before .before .before .before .before .before .write-fresh .ensures .1) in
+    ran-whole (a .sheet .now) (a .memory .now) (a .lines .now) (a .used) freshSession _ _ _ h
+    (ends-then (a .sheet .now) (a .memory .now) _ _ (a .lines .now) _ (a .used) _ freshSession w (ends-start (a .sheet .now) _ _ (a .lines .now) _ (a .used) _ (c .before .before .before .before .run-at .ensures)))
 
 pub run-fresh-spec : {M : Type 1} → statement M
 run-fresh-spec =
     tie.close
     (tie.spec
-    write-fresh-requires
+    is-lent-requires
     same-length
-    returns
-    run-whole-requires
     same-length-2
+    returns
+    write-fresh-requires
+    run-at-requires
     same-length-3
+    same-length-4
     returns-2)

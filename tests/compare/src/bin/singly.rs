@@ -16,7 +16,7 @@ fn main() -> io::Result<()> {
     let mut sheet = vec![];
     io::stdin().lock().take(MAX_SHEET as u64).read_to_end(&mut sheet)?;
     let mut memory = Memory::new(vec![0; WORDS]);
-    assert!(memory.fresh());
+    assert_eq!(memory.fresh(), 0);
     let mut lines = String::new();
     match read_first(&sheet) {
         Ok(used) => run(&mut memory, &sheet[used..], skips, &mut lines),

@@ -1,9 +1,10 @@
-use Prim.Native.Nat.{_*_, _+_, _-_, _≤_}
-use Rattle.checks.specs.Granting.{clash, slotAt}
-use Rattle.checks.specs.Scan.{Scanned, Through, free-scanned, free-unclaimed, record-count, record-slot, scan-more, scan-none, scan-over, taken-maker, taken-place, through-more, through-none}
+use Prim.Native.Nat.{_*_, _-_, _/_, _≤_, _<_}
+use Rattle.checks.specs.Granting.{slotAt}
+use Rattle.checks.specs.Scan.{Scanned, Through, free-scanned, free-unclaimed, record-count, record-slot, scan-more, scan-same, taken, through-more, through-none}
+use Rattle.checks.specs.Holders.{Listed, listed-few, listed-first, place-few, place-first, reach}
 use Rattle.checks.specs.SoundParts.{few-objects, sound-few-slots}
-use Rattle.checks.specs.TestLaws.{no, no-not, right, wrong, yes}
-use Rattle.rules.specs.Formula.{not}
+use Rattle.checks.specs.TestLaws.{no, no-not, right, wrong, yes, yes-not}
+use Rattle.rules.specs.Checks.{slotFree}
 use Rattle.session.specs.Table.{at, read}
 use Rattle.session.specs.declared.Field.the-variants.{Objects, TaskSlots}
 use mathlib.Core.Bool.{true}
@@ -14,126 +15,145 @@ use Rattle.checks.proofs.granting.is_free.Statement.{statement}
 use Rattle.checks.proofs.granting.is_free.Tie as tie
 
 abbrev Inv-loop : tie.InvT-loop
-Inv-loop s t task count end free₀ k next hold j₀ free j =
-    (free ≡ true) × (j ≤ count) × Through (λ i. not (clash (slotAt (read s) (at t i)) (slotAt (read s) k))) j
+Inv-loop s t task count holders₀ found₀ free₀ j i slot q₀ holders found free q =
+    (free ≡ true) × Listed (read s) holders found × (q ≤ 16 * found) × (16 * found ≤ q → read s Objects 0 < reach holders found) × Scanned (read s) t (slotAt (read s) (at t j)) holders q
 
 abbrev μ-loop : tie.MeasureT-loop
-μ-loop s t task count end free₀ k next hold j₀ free j = count - j
+μ-loop s t task count holders₀ found₀ free₀ j i slot q₀ holders found free q = 8208 - q
 
-abbrev Inv-holds : tie.InvT-holds
-Inv-holds s t task count end free₀ k₀ free k =
-    (free ≡ true) × (count ≡ read s TaskSlots t) × (count ≤ 16) × (end ≡ 16 * (read s Objects 0 + 1)) × (end ≤ 8208) × Scanned (read s) t k
+abbrev Inv-slots : tie.InvT-slots
+Inv-slots s t task count holders₀ found₀ free₀ j₀ holders found free j =
+    (free ≡ true) × (count ≡ read s TaskSlots t) × (count ≤ 16) × Listed (read s) holders found × Through (λ i. slotFree (read s) t (at t i)) j
 
-abbrev μ-holds : tie.MeasureT-holds
-μ-holds s t task count end free₀ k₀ free k = end - k
+abbrev μ-slots : tie.MeasureT-slots
+μ-slots s t task count holders₀ found₀ free₀ j₀ holders found free j = count - j
 
 -- t is a place of its fields, and has at most 16 slots
-few : (c : tie.Start Inv-loop μ-loop Inv-holds μ-holds) → (c .args .t ≤ 512) × (read (c .args .s .now) TaskSlots (c .args .t) ≤ 16)
+few : (c : tie.Start Inv-loop μ-loop Inv-slots μ-slots) → (c .args .t ≤ 512) × (read (c .args .s .now) TaskSlots (c .args .t) ≤ 16)
 few c =
     let o = few-objects _ (c .pre .1) in
     (omega arith, sound-few-slots _ (c .pre .1) (c .args .t) (c .pre .2))
 
-has-claim-requires : tie.Need-has-claim-requires Inv-loop μ-loop Inv-holds μ-holds
+has-claim-requires : tie.Need-has-claim-requires Inv-loop μ-loop Inv-slots μ-slots
 has-claim-requires c κs = let f = few (c .before) in omega arith
 
-returns : tie.Need-returns Inv-loop μ-loop Inv-holds μ-holds
-returns c = right _ (free-unclaimed _ _ (no-not _ (c .before .has-claim .ensures) (c .if1 .taken)))
+returns : tie.Need-returns Inv-loop μ-loop Inv-slots μ-slots
+returns c = right _ (λ j m. free-unclaimed _ _ _ (λ x. no-not _ (c .before .has-claim .ensures) (c .if1 .taken) (j, m, x)))
 
-makers-clash-requires : tie.Need-makers-clash-requires Inv-loop μ-loop Inv-holds μ-holds
-makers-clash-requires c κs = let f = few (c .before .before .before) in omega arith
+task-at-requires : tie.Need-task-at-requires Inv-loop μ-loop Inv-slots μ-slots
+task-at-requires c κs = let f = few (c .before .before .before) in omega arith
 
-returns-2 : tie.Need-returns-2 Inv-loop μ-loop Inv-holds μ-holds
-returns-2 c = wrong _ (taken-maker _ _ (yes _ (c .before .makers-clash .ensures) (c .if2 .taken)))
+slots-holds : tie.Need-slots-holds Inv-loop μ-loop Inv-slots μ-slots
+slots-holds c =
+    let n = record-count _ _ _ (c .task-at .ensures) in
+    let f = few (c .before .before .before .before) in
+    (refl, n, omega arith, listed-first _ _ refl refl, through-none _)
 
-task-at-requires : tie.Need-task-at-requires Inv-loop μ-loop Inv-holds μ-holds
-task-at-requires c κs = let f = few (c .before .before .before .before .before) in omega arith
-
-get-requires : tie.Need-get-requires Inv-loop μ-loop Inv-holds μ-holds
-get-requires c κs = omega arith
-
-add-end : tie.Need-add-end Inv-loop μ-loop Inv-holds μ-holds
-add-end c = let o = few-objects _ (c .before .before .before .before .before .before .before .pre .1) in omega arith
-
-mul-end : tie.Need-mul-end Inv-loop μ-loop Inv-holds μ-holds
-mul-end c = let o = few-objects _ (c .before .before .before .before .before .before .before .pre .1) in omega arith
-
-holds-holds : tie.Need-holds-holds Inv-loop μ-loop Inv-holds μ-holds
-holds-holds c =
-    let a = c .before .before .before .before .before .before .before in
-    let o = few-objects _ (a .pre .1) in
-    let n = record-count _ _ _ (c .before .task-at .ensures) in
-    let f = few a in
-    (refl, n, omega arith, omega arith, omega arith, scan-none _ _)
-
-next-hold-requires : tie.Need-next-hold-requires Inv-loop μ-loop Inv-holds μ-holds
-next-hold-requires c κs =
-    let a = c .before .before .before .before .before .before .before .before .before in
-    (omega arith, a .pre .1, omega arith)
-
-holds-less : tie.Need-holds-less Inv-loop μ-loop Inv-holds μ-holds
-holds-less c = let p = c .before .next-hold .ensures .passed .from in omega arith
-
-holds-again : tie.Need-holds-again Inv-loop μ-loop Inv-holds μ-holds
-holds-again c =
-    let i = c .before .before .before .holds .inv in
-    (i .0, i .1, i .2, i .3, i .4, scan-over _ _ _ _ (c .before .next-hold .ensures .passed) (i .5))
-
-slot-at-requires : tie.Need-slot-at-requires Inv-loop μ-loop Inv-holds μ-holds
-slot-at-requires c κs = omega arith
-
-loop-holds : tie.Need-loop-holds Inv-loop μ-loop Inv-holds μ-holds
-loop-holds c = (c .before .before .before .before .holds .inv .0, omega arith, through-none _)
-
-mul-slot : tie.Need-mul-slot Inv-loop μ-loop Inv-holds μ-holds
+mul-slot : tie.Need-mul-slot Inv-loop μ-loop Inv-slots μ-slots
 mul-slot c = omega arith
 
-element-copy-out-slot : tie.Need-element-copy-out-slot Inv-loop μ-loop Inv-holds μ-holds
+element-copy-out-slot : tie.Need-element-copy-out-slot Inv-loop μ-loop Inv-slots μ-slots
 element-copy-out-slot c = omega arith
 
-clashes-requires : tie.Need-clashes-requires Inv-loop μ-loop Inv-holds μ-holds
-clashes-requires c κs = search needs
+is-claim-requires : tie.Need-is-claim-requires Inv-loop μ-loop Inv-slots μ-slots
+is-claim-requires c κs = search needs
 
-add-j : tie.Need-add-j Inv-loop μ-loop Inv-holds μ-holds
+add-j : tie.Need-add-j Inv-loop μ-loop Inv-slots μ-slots
 add-j c = omega arith
 
-loop-less : tie.Need-loop-less Inv-loop μ-loop Inv-holds μ-holds
-loop-less c = omega arith
+slots-less : tie.Need-slots-less Inv-loop μ-loop Inv-slots μ-slots
+slots-less c = omega arith
 
-loop-again : tie.Need-loop-again Inv-loop μ-loop Inv-holds μ-holds
+slots-again : tie.Need-slots-again Inv-loop μ-loop Inv-slots μ-slots
+slots-again c =
+    let h = c .before .before .before .before in
+    let i = h .slots .inv in
+    let e = record-slot _ _ _ (h .before .task-at .ensures) (h .slots .j) (omega arith) in
+    (i .0, i .1, i .2, i .3, through-more _ _ (i .4) (free-unclaimed _ _ _ (rw e at (no-not _ (c .before .is-claim .ensures) (c .if2 .taken)))))
+
+loop-holds : tie.Need-loop-holds Inv-loop μ-loop Inv-slots μ-slots
+loop-holds c =
+    let i = c .before .before .before .before .slots .inv in
+    (i .0, i .3, omega arith, (λ l. let m = i .3 .some in absurd (omega arith)), through-none _)
+
+mul-loop : tie.Need-mul-loop Inv-loop μ-loop Inv-slots μ-slots
+mul-loop c = let f = listed-few _ _ _ (c .loop .inv .1) in omega arith
+
+place-at-requires : tie.Need-place-at-requires Inv-loop μ-loop Inv-slots μ-slots
+place-at-requires c κs =
+    let l = c .before .before .loop in
+    ((let f = listed-few _ _ _ (l .inv .1) in omega arith), l .inv .1 .low (l .q / 16) (omega arith))
+
+hold-clashes-requires : tie.Need-hold-clashes-requires Inv-loop μ-loop Inv-slots μ-slots
+hold-clashes-requires c κs =
+    let l = c .before .before .before .loop in
+    let few = place-few _ _ _ (l .inv .1) (l .q) (omega arith) in
+    omega (arith, c .place-at .ensures)
+
+next-place-requires : tie.Need-next-place-requires Inv-loop μ-loop Inv-slots μ-slots
+next-place-requires c κs =
+    let l = c .before .before .before .before .before .before in
+    let a = l .before .before .before .before .before .before .before .before .before .before in
+    (a .pre .0, a .pre .1, l .loop .inv .1, omega arith)
+
+find-more-requires : tie.Need-find-more-requires Inv-loop μ-loop Inv-slots μ-slots
+find-more-requires c κs =
+    let l = c .before .before .before .before .before .before .before .before in
+    let a = l .before .before .before .before .before .before .before .before .before .before in
+    (a .pre .0, few-objects _ (a .pre .1), l .loop .inv .1, c .before .next-place .ensures .0)
+
+loop-less : tie.Need-loop-less Inv-loop μ-loop Inv-slots μ-slots
+loop-less c =
+    let p = c .before .before .next-place .ensures in
+    let f = listed-few _ _ _ (c .before .before .before .before .before .before .before .before .before .loop .inv .1) in
+    omega (arith, p .0, p .1 .from)
+
+loop-again : tie.Need-loop-again Inv-loop μ-loop Inv-slots μ-slots
 loop-again c =
-    let l = c .before .before .before .before in
+    let p = c .before .before .next-place .ensures in
+    let u = c .before .before .before .before in
+    let l = u .before .before .before .before .before in
     let h = l .before .before .before .before .before in
-    let a = h .before .before .before .before .before .before .before .before in
-    let e = record-slot _ _ _ (h .before .before .task-at .ensures) (l .loop .j) (omega arith) in
-    (l .loop .inv .0, omega arith, through-more _ _ (l .loop .inv .2) (rw (e, l .before .slot-at .ensures) at (no _ (c .before .clashes .ensures) (c .if4 .left))))
+    let i = l .loop .inv in
+    let f = c .find-more .ensures in
+    let e = record-slot _ _ _ (h .before .task-at .ensures) (h .slots .j) (omega arith) in
+    let apart = rw (e, u .before .before .place-at .ensures) at (no _ (u .before .hold-clashes .ensures) (u .if3 .left)) in
+    let a = h .before .before .before .before .before .args in
+    let s = read (a .s .now) in
+    let slot = slotAt s (at (a .t) (h .slots .j)) in
+    let more = scan-more s (a .t) slot (l .loop .holders) (l .loop .q) _ (i .4) apart (place-first _ _ _ (i .1)) (p .1) in
+    (i .0, f .listed, omega (arith, p .0, f .up), f .done, scan-same s (a .t) slot (l .loop .holders) _ _ _ (f .same) (p .0) more)
 
-add-k : tie.Need-add-k Inv-loop μ-loop Inv-holds μ-holds
-add-k c = omega arith
+add-j-2 : tie.Need-add-j-2 Inv-loop μ-loop Inv-slots μ-slots
+add-j-2 c = omega arith
 
-holds-less-2 : tie.Need-holds-less-2 Inv-loop μ-loop Inv-holds μ-holds
-holds-less-2 c = omega arith
+slots-less-2 : tie.Need-slots-less-2 Inv-loop μ-loop Inv-slots μ-slots
+slots-less-2 c = omega arith
 
-holds-again-2 : tie.Need-holds-again-2 Inv-loop μ-loop Inv-holds μ-holds
-holds-again-2 c =
-    let l = c .before .loop in
-    let i = c .before .before .before .before .before .before .holds .inv in
-    (l .inv .0, i .1, i .2, i .3, i .4, scan-more _ _ _ _ (i .5) (omega arith) (l .inv .2))
+slots-again-2 : tie.Need-slots-again-2 Inv-loop μ-loop Inv-slots μ-slots
+slots-again-2 c =
+    let l = c .before in
+    let h = l .before .before .before .before .before in
+    let i = h .slots .inv in
+    let k = l .loop .inv in
+    let a = h .before .before .before .before .before in
+    let e = record-slot _ _ _ (h .before .task-at .ensures) (h .slots .j) (omega arith) in
+    let claim = rw e at (yes-not _ (l .before .before .is-claim .ensures) (l .before .if2 .left)) in
+    let end = c .loop-test .left in
+    (k .0, i .1, i .2, k .1, through-more _ _ (i .4) (free-scanned _ _ _ (a .pre .1) _ _ (k .1) (l .loop .q) (k .3 end) end (k .4) claim))
 
-returns-3 : tie.Need-returns-3 Inv-loop μ-loop Inv-holds μ-holds
+returns-2 : tie.Need-returns-2 Inv-loop μ-loop Inv-slots μ-slots
+returns-2 c = let h = c .before .slots in h .inv .0 ∙ right _ (λ j m. h .inv .4 .all j (omega arith))
+
+returns-3 : tie.Need-returns-3 Inv-loop μ-loop Inv-slots μ-slots
 returns-3 c =
-    let h = c .before .holds in
-    let m = c .before .before .before .before in
-    h .inv .0 ∙ right _ (free-scanned _ _ (h .k) (omega arith) (h .inv .5) (no _ (m .before .makers-clash .ensures) (m .if2 .left)))
-
-returns-4 : tie.Need-returns-4 Inv-loop μ-loop Inv-holds μ-holds
-returns-4 c =
-    let l = c .before .before .before .before in
-    let n = l .before .before in
-    let h = n .before .before .before in
-    let a = h .before .before .before .before .before .before .before .before in
-    let e = record-slot _ _ _ (h .before .before .task-at .ensures) (l .loop .j) (omega arith) in
-    let hit = rw (e, l .before .slot-at .ensures) at (yes _ (c .before .clashes .ensures) (c .if4 .taken)) in
-    wrong _ (taken-place _ _ (a .pre .1) (a .pre .3) (h .holds .k) (l .loop .j) (omega arith, n .before .next-hold .ensures .here (n .if3 .left)) (omega arith) hit)
+    let l = c .before .before .before .before .before in
+    let h = l .before .before .before .before .before in
+    let a = h .before .before .before .before .before in
+    let e = record-slot _ _ _ (h .before .task-at .ensures) (h .slots .j) (omega arith) in
+    let claim = rw e at (yes-not _ (l .before .before .is-claim .ensures) (l .before .if2 .left)) in
+    let hit = rw (e, c .before .before .place-at .ensures) at (yes _ (c .before .hold-clashes .ensures) (c .if3 .taken)) in
+    wrong _ (λ f. taken _ _ _ (a .pre .1) _ _ (l .loop .inv .1) (a .pre .3) (l .loop .q) (omega arith) claim hit (f (h .slots .j) (omega arith)))
 
 pub is-free-spec : {M : Type 1} → statement M
 is-free-spec =
@@ -141,30 +161,28 @@ is-free-spec =
     (tie.spec
     Inv-loop
     μ-loop
-    Inv-holds
-    μ-holds
+    Inv-slots
+    μ-slots
     has-claim-requires
     returns
-    makers-clash-requires
-    returns-2
     task-at-requires
-    get-requires
-    add-end
-    mul-end
-    holds-holds
-    next-hold-requires
-    holds-less
-    holds-again
-    slot-at-requires
-    loop-holds
+    slots-holds
     mul-slot
     element-copy-out-slot
-    clashes-requires
+    is-claim-requires
     add-j
+    slots-less
+    slots-again
+    loop-holds
+    mul-loop
+    place-at-requires
+    hold-clashes-requires
+    next-place-requires
+    find-more-requires
     loop-less
     loop-again
-    add-k
-    holds-less-2
-    holds-again-2
-    returns-3
-    returns-4)
+    add-j-2
+    slots-less-2
+    slots-again-2
+    returns-2
+    returns-3)

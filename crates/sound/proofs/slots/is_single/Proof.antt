@@ -34,24 +34,27 @@ mul-i c = search needs
 add-i : tie.Need-add-i
 add-i c = search needs
 
-mul-result : tie.Need-mul-result
-mul-result c = search needs
+mul-wide : tie.Need-mul-wide
+mul-wide c = search needs
 
-element-copy-out-result : tie.Need-element-copy-out-result
-element-copy-out-result c = search needs
+element-copy-out-wide : tie.Need-element-copy-out-wide
+element-copy-out-wide c = search needs
+
+wide-requires : tie.Need-wide-requires
+wide-requires c κs = search needs
 
 returns-2 : tie.Need-returns-2
 returns-2 c =
-    let x = c .before .before .before .before .before .before in
+    let x = c .before .before .before .before .before .before .before in
     let a = x .args in
     let p = x .pre in
     let s = read (a .s .now) in
     let i = at (s LinkTarget (a .l)) (s LinkSlot (a .l)) in
-    let e = c .before .before .before .before .of-link .ensures in
-    let d = c .before .before .before .of-link2 .ensures in
-    let t : s Kind (s LinkTarget (a .l)) ≡ 2 = rw e at (sym (c .before .before .of-object .ensures) ∙ c .before .if1 .left) in
+    let e = c .before .before .before .before .before .of-link .ensures in
+    let d = c .before .before .before .before .of-link2 .ensures in
+    let t : s Kind (s LinkTarget (a .l)) ≡ 2 = rw e at (sym (c .before .before .before .of-object .ensures) ∙ c .before .before .if1 .left) in
     let q : getD (a .row .now) i 0 ≡ lastLink s (s Links 0 + 1) i = p .4 .entry i (omega (arith, p .2, p .3)) in
-    rw (e, d, q) (sym (test-then (1 ≼ a .l and isKind s task (s LinkTarget (a .l))) (lastLink s (s Links 0 + 1) i ≐ a .l) (p .1, t) ∙ test-eq _ _))
+    rw (c .wide .ensures, e, d, q) (sym (test-then (1 ≼ a .l and isKind s task (s LinkTarget (a .l))) (lastLink s (s Links 0 + 1) i ≐ a .l) (p .1, t) ∙ test-eq _ _))
 
 pub is-single-spec : {M : Type 1} → statement M
 is-single-spec =
@@ -63,6 +66,7 @@ is-single-spec =
     returns
     mul-i
     add-i
-    mul-result
-    element-copy-out-result
+    mul-wide
+    element-copy-out-wide
+    wide-requires
     returns-2)

@@ -15,22 +15,25 @@ mul-i c = search needs
 add-i : tie.Need-add-i
 add-i c = search needs
 
-mul-is-slot-by : tie.Need-mul-is-slot-by
-mul-is-slot-by c = search needs
+mul-wide : tie.Need-mul-wide
+mul-wide c = search needs
 
-element-copy-out-is-slot-by : tie.Need-element-copy-out-is-slot-by
-element-copy-out-is-slot-by c = search needs
+element-copy-out-wide : tie.Need-element-copy-out-wide
+element-copy-out-wide c = search needs
+
+wide-requires : tie.Need-wide-requires
+wide-requires c κs = search needs
 
 is-slot-by-requires : tie.Need-is-slot-by-requires
 is-slot-by-requires c κs = search needs
 
 returns : tie.Need-returns
 returns c =
-    let x = c .before .before .before in
+    let x = c .before .before .before .before in
     let a = x .args in
-    c .is-slot-by .ensures ∙ ap (λ (m : ℕ). test (slotBy (read (a .s .now)) m (a .h) (a .j))) (x .pre .3 .entry (at (a .h) (a .j)) (omega arith))
+    c .is-slot-by .ensures ∙ ap (λ (m : ℕ). test (slotBy (read (a .s .now)) m (a .h) (a .j))) (c .before .wide .ensures ∙ x .pre .3 .entry (at (a .h) (a .j)) (omega arith))
 
 pub is-slot-spec : {M : Type 1} → statement M
 is-slot-spec =
     tie.close
-    (tie.spec mul-i add-i mul-is-slot-by element-copy-out-is-slot-by is-slot-by-requires returns)
+    (tie.spec mul-i add-i mul-wide element-copy-out-wide wide-requires is-slot-by-requires returns)

@@ -22,6 +22,9 @@ mul-i c = search needs
 add-i : tie.Need-add-i
 add-i c = search needs
 
+cast-row : tie.Need-cast-row
+cast-row c = search needs
+
 mul-row : tie.Need-mul-row
 mul-row c = search needs
 
@@ -55,6 +58,7 @@ note-link-spec =
     of-object-requires
     mul-i
     add-i
+    cast-row
     mul-row
     element-write-row
     returns

@@ -21,7 +21,7 @@ note-link-requires c κs =
     let p = c .before .before .before .before .pre in
     let l = c .before .before .loop in
     let x = p .3 (l .l) (omega (arith, p .2)) (l .inv .0) in
-    (p .0, l .inv .0, x .0, x .1, l .inv .2)
+    (p .0, l .inv .0, x .0, x .1, l .inv .2, omega arith)
 
 add-l : tie.Need-add-l Inv-loop μ-loop
 add-l c = omega arith

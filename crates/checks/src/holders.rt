@@ -1,0 +1,103 @@
+// The tasks that hold blocks by their slots, for a scan that goes over their holds several times: they are looked for once, and
+// only as far as a scan comes. Handle 0 is always the first of the list, and the last handle the last of a whole one, as if they
+// were holders. Internal.
+use session::Field;
+use session::names;
+ghost use mathlib.Core.Path.{_≡_};
+ghost use Prim.Native.Nat.{_+_, _*_, _/_, _≤_, _<_};
+ghost use lib.ListN.{length, getD};
+ghost use Rattle.session.specs.Table.{read, words};
+ghost use Rattle.session.specs.declared.Field.the-variants.{Objects};
+ghost use Rattle.rules.specs.Formula.{test, holds, Formula.some};
+ghost use Rattle.rules.specs.Sound.{sound};
+ghost use Rattle.checks.specs.Holders.{Passed, Listed, More, isHolder, isHold, placeOf};
+
+// Whether h may hold blocks by its slots.
+fn is_holder(s: &[u64], h: usize) -> bool
+    requires { ⌜ (words ≤ length (now s)) × (h < 513) ⌝ }
+    ensures { λ r. ⌜ r ≡ test (isHolder (read (now (s .entry))) h) ⌝ }
+{
+    let state = session::get(s, Field::TaskState, h);
+    if state == names::GRANTED {
+        return true;
+    }
+    state == names::RUNNING
+}
+
+// Whether one of the eight handles from h on is a holder's. The bound of the loop is constant, so that the compiler makes
+// eight tests in a row of it.
+fn has_holder(s: &[u64], h: usize) -> bool
+    requires { ⌜ (words ≤ length (now s)) × (h ≤ 505) ⌝ }
+    ensures { λ r. ⌜ r ≡ test (some 8 (λ n. isHolder (read (now (s .entry))) (h + n))) ⌝ }
+{
+    let mut n: usize = 0;
+    while n < 8 {
+        if is_holder(s, h + n) {
+            return true;
+        }
+        n += 1;
+    }
+    false
+}
+
+// The first holder from `from` on, or n if none is before it. Eight handles at a time are passed over first.
+fn next_holder(s: &[u64], n: usize, from: usize) -> usize
+    requires { ⌜ (words ≤ length (now s)) × (from ≤ n) × (n ≤ 512) ⌝ }
+    ensures { λ r. ⌜ (r ≤ n) × Passed (isHolder (read (now (s .entry)))) from r ⌝ }
+{
+    let mut h = from;
+    while h + 8 <= n {
+        if has_holder(s, h) {
+            break;
+        }
+        h += 8;
+    }
+    while h < n {
+        if is_holder(s, h) {
+            return h;
+        }
+        h += 1;
+    }
+    h
+}
+
+// One holder more, once number q is past the places of those that there are; as many as before if they go up to the last
+// handle.
+pub fn find_more(s: &[u64], holders: &mut [u16; 513], found: usize, q: usize) -> usize
+    requires { ⌜ (words ≤ length (now s)) × (read (now s) Objects 0 ≤ 512) × Listed (read (now s)) (now holders) found × (q ≤ 16 * found) ⌝ }
+    ensures { λ r. ⌜ More (read (now (s .entry))) (now (holders .entry)) (now (holders .exit)) found r q ⌝ }
+{
+    if q < 16 * found {
+        return found;
+    }
+    let n = session::get(s, Field::Objects, 0) as usize;
+    let last = found - 1;
+    let from = holders[last] as usize + 1;
+    if n < from {
+        return found;
+    }
+    holders[found] = next_holder(s, n, from) as u16;
+    found + 1
+}
+
+// Place number q of the holders' slots.
+pub fn place_at(holders: &[u16; 513], q: usize) -> usize
+    requires { ⌜ (q < 8208) × (getD (now holders) (q / 16) 0 ≤ 512) ⌝ }
+    ensures { λ r. ⌜ r ≡ placeOf (now (holders .entry)) q ⌝ }
+{
+    let i = q / 16;
+    16 * holders[i] as usize + q % 16
+}
+
+// The number after q of the place at which the next hold may be: the holder's next slot, or the first one of the next holder.
+pub fn next_place(s: &[u64], holders: &[u16; 513], found: usize, q: usize) -> usize
+    requires { ⌜ (words ≤ length (now s)) × holds (sound (read (now s))) × Listed (read (now s)) (now holders) found × (q < 16 * found) ⌝ }
+    ensures { λ r. ⌜ (r ≤ 16 * found) × Passed (λ i. isHold (read (now (s .entry))) (placeOf (now (holders .entry)) i)) (q + 1) r ⌝ }
+{
+    let i = q / 16;
+    let j = q % 16 + 1;
+    if (j as u64) < session::get(s, Field::TaskSlots, holders[i] as usize) {
+        return q + 1;
+    }
+    16 * (i + 1)
+}

@@ -1,0 +1,66 @@
+-- "Edges, marked P" (document 01), and its false roads: one table and one theorem that all of it holds.
+use mathlib.Core.List.{[], _∷_}
+use mathlib.Core.Path.{_≡_, ap}
+use Rattle.number.specs.Number.{limit32, readAt, refusalOf}
+use Rattle.number.specs.declared.Reading.the-variants.{Value}
+use Rattle.number.specs.Edges.{P6 as number-edge}
+use Rattle.rules.specs.Edges.{p1, p2, p3, p4, p8, p8-then, p9, p10, readyStays, grantWhole, firstClaim, edges-met}
+use Rattle.sheet.specs.Printed.{output}
+use Rattle.edges.specs.Single.{Met, met}
+use Rattle.edges.specs.Filled.{p5, filled}
+use Rattle.edges.specs.Empty.{empty-sheet}
+
+-- "P1 to P10 are shown of the rules as one tabled statement", with the false roads: each is a list of single calls from a fresh
+-- session, P6 a number's bytes, P7 a sheet's lines.
+pub record Edges : Type 0 where
+  -- latch: one decrement, then one increment fires
+  pub P1 : Met p1
+  -- increment, increment, decrement: open
+  pub P2 : Met p2
+  -- fresh latch: open; so "firing a latch at creation" is a false road
+  pub P3 : Met p3
+  -- pre-slot 15 of 16 exists, 16 gives 12
+  pub P4 : Met p4
+  -- handle 512 is made, the next gives 20
+  pub P5 : Met p5
+  -- bytes 128 0: refusal 4; 128 1 is 128
+  pub P6 : (refusalOf (readAt limit32 (128 ∷ 0 ∷ []) 0) ≡ 4) × (readAt limit32 (128 ∷ 1 ∷ []) 0 ≡ Value 128 2)
+  -- empty sheet: `0 3 0`, then `1 0 0`
+  pub P7 : output [] ≡ 48 ∷ 32 ∷ 51 ∷ 32 ∷ 48 ∷ 10 ∷ 49 ∷ 32 ∷ 48 ∷ 32 ∷ 48 ∷ 10 ∷ []
+  -- finish task ends with a live grandchild: not fired; but it fires as the grandchild ends ("treating only children as descendants")
+  pub P8 : Met p8
+  pub P8-then : Met p8-then
+  -- two RW holds stand
+  pub P9 : Met p9
+  -- link from a fired sticky is ready
+  pub P10 : Met p10
+  -- "dropping ready links when their event goes"
+  pub ready-stays : Met readyStays
+  -- "granting block by block"
+  pub grant-whole : Met grantWhole
+  -- "a second claim replacing the first"
+  pub first-claim : Met firstClaim
+
+number-read : (refusalOf (readAt limit32 (128 ∷ 0 ∷ []) 0) ≡ 4) × (readAt limit32 (128 ∷ 1 ∷ []) 0 ≡ Value 128 2)
+unfolding refusalOf
+number-read = (ap refusalOf (number-edge .0), number-edge .1)
+
+pub edges-hold : Edges
+edges-hold =
+    let e = edges-met in
+    record {
+      P1 = met p1 (e .0);
+      P2 = met p2 (e .1 .0);
+      P3 = met p3 (e .1 .1 .0);
+      P4 = met p4 (e .1 .1 .1 .0);
+      P5 = met p5 filled;
+      P6 = number-read;
+      P7 = empty-sheet;
+      P8 = met p8 (e .1 .1 .1 .1 .0);
+      P8-then = met p8-then (e .1 .1 .1 .1 .1 .0);
+      P9 = met p9 (e .1 .1 .1 .1 .1 .1 .0);
+      P10 = met p10 (e .1 .1 .1 .1 .1 .1 .1 .0);
+      ready-stays = met readyStays (e .1 .1 .1 .1 .1 .1 .1 .1 .0);
+      grant-whole = met grantWhole (e .1 .1 .1 .1 .1 .1 .1 .1 .1 .0);
+      first-claim = met firstClaim (e .1 .1 .1 .1 .1 .1 .1 .1 .1 .1 .0);
+    }

@@ -1,0 +1,4 @@
+pub mod Single
+pub mod Filled
+pub mod Empty
+pub mod Edges

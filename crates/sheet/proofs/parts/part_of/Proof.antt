@@ -1,0 +1,28 @@
+-- `sheet::parts::part_of` meets its contract.
+use Rattle.sheet.specs.PartLaws.{going-told, going-last}
+use borrow.Author.Needs.{needs}
+use Rattle.sheet.proofs.parts.part_of.Statement.{statement}
+use Rattle.sheet.proofs.parts.part_of.Tie as tie
+
+sub-t5 : tie.Need-sub-t5
+sub-t5 c =
+    c .before .before .before .before .before .pre .1 (c .before .if1 .taken)
+
+returns : tie.Need-returns
+returns c =
+    let a = c .before .before .before .before .before .args in
+    going-told (a .memory .now) (a .lines .now) (a .run) (c .before .if1 .taken)
+
+last-part-requires : tie.Need-last-part-requires
+last-part-requires c κs = search needs
+
+same-length : tie.Need-same-length
+same-length c = search needs
+
+returns-2 : tie.Need-returns-2
+returns-2 c =
+    let a = c .before .before .before .before .before .before .before .before .args in
+    going-last (a .memory .now) (a .lines .now) (a .run) _ _ (c .before .before .before .before .if1 .left) (c .before .before .last-part .ensures)
+
+pub part-of-spec : {M : Type 1} → statement M
+part-of-spec = tie.close (tie.spec sub-t5 returns last-part-requires same-length returns-2)

@@ -1,0 +1,103 @@
+#!/usr/bin/env python3
+"""mains.py [PROGRAM..]: wrong programs that no contract can refuse, and that a test fails on.
+
+The toolchain's `read` and `write` say nothing of the bytes, so that the few lines of a `main` which read and write are under no
+contract (docs/PROMISES.md). Here each program is tried on inputs whose output was worked out from document 01 and docs/TEXT.md
+alone: as it stands and with a harmless edit of its `main` the outputs must be right; with each wrong edit it must still be
+proved, so that the edit shows what proofs do not see, and an output must be wrong.
+
+The edits are made in a copy of the tree, with what was proved of it. Prints a line a try, and last `N passed, M failed`.
+"""
+import concurrent.futures
+import os
+import shutil
+import subprocess
+import sys
+import tempfile
+
+ROOT = os.path.dirname(os.path.dirname(os.path.abspath(__file__)))
+
+# Link 1 was never made: deliveries of it are refused with 9. Their lines take more than one part of 16,384 bytes, and the last
+# byte is the 32,769th: without it the last record is cut short.
+DELIVERIES = 16384
+REFUSED = b''.join(b'%d 9 0\n' % (k + 1) for k in range(DELIVERIES - 1)) + b'%d 3 0\n1 0 0\n' % DELIVERIES
+
+# a program: what it reads, and what it must print
+TRIES = {
+    'ocr_sheet': [(b'', b'0 3 0\n1 0 0\n'), (bytes([2]), b'0 5 0\n1 0 0\n'), (bytes([1] + [9, 1] * DELIVERIES), REFUSED)],
+    'text_to_sheet': [(b'1 # a sheet\n10 2\n', bytes([1, 10, 2])), (b'1\n10 two\n', b'line 2\n')],
+    'sheet_to_text': [(bytes([1, 10, 2]), b'1\n10 2  # grant\n')],
+}
+
+# a program, whether the edit is harmless, old text, new text
+EDITS = [
+    ('ocr_sheet', True, 'io::write_all(1, &lines[..used]);', 'io::write_all(0x1, &lines[..used]);'),
+    ('ocr_sheet', False, 'io::write_all(1, &lines[..used]);', 'io::write_all(2, &lines[..used]);'),
+    ('ocr_sheet', False, 'let mut next = Next::At(0, 0);', 'let mut next = Next::LastLine;'),
+    ('ocr_sheet', False, 'const SHEET: usize = 32768;', 'const SHEET: usize = 16384;'),
+    ('text_to_sheet', True, 'io::write_all(1, &out[..used]);', 'io::write_all(0x1, &out[..used]);'),
+    ('text_to_sheet', False, 'io::write_all(1, &out[..used]);', 'io::write_all(2, &out[..used]);'),
+    ('sheet_to_text', False, 'io::write_all(1, &out[..used]);', 'io::write_all(2, &out[..used]);'),
+]
+
+
+def copy_of_tree(folder):
+    """The crates, with what was proved of them."""
+    shutil.copy(os.path.join(ROOT, 'crates.txt'), folder)
+    for name in ['crates', os.path.join('target', 'rlib'), os.path.join('target', 'stamp'), os.path.join('target', 'bin')]:
+        if os.path.exists(os.path.join(ROOT, name)):
+            shutil.copytree(os.path.join(ROOT, name), os.path.join(folder, name))
+
+
+def is_proved(folder, program):
+    """Whether a program of the copy is proved and built."""
+    run = subprocess.run(['rt', 'check', program], cwd=folder, stdout=subprocess.PIPE, stderr=subprocess.STDOUT, text=True)
+    return 'rt: %s proved' % program in run.stdout
+
+
+def is_right(folder, program):
+    """Whether a program of the copy prints what it must, and nothing on standard error."""
+    path = os.path.join(folder, 'target', 'bin', program)
+    runs = [(subprocess.run([path], input=read, stdout=subprocess.PIPE, stderr=subprocess.PIPE), wanted)
+            for read, wanted in TRIES[program]]
+    return all(run.stdout == wanted and run.stderr == b'' for run, wanted in runs)
+
+
+def tried(folder, program, harmless, old, new):
+    """Whether an edit is proved, and seen in an output exactly if it is wrong; and in words."""
+    path = os.path.join(folder, 'crates', program, 'src', 'main.rt')
+    with open(path, encoding='utf-8') as file:
+        text = file.read()
+    if text.count(old) != 1:
+        return False, '`%s` stands %d times in its main' % (old, text.count(old))
+    with open(path, 'w', encoding='utf-8') as file:
+        file.write(text.replace(old, new))
+    proved, right = is_proved(folder, program), is_right(folder, program)
+    with open(path, 'w', encoding='utf-8') as file:
+        file.write(text)
+    if not proved:
+        return False, '`%s` is not proved' % new
+    return right == harmless, '`%s`: proved, and prints what is %s' % (new, 'right' if right else 'wrong')
+
+
+def answers(program):
+    """What was tried of a program, in a copy of its own: whether it went as it must, and in words."""
+    with tempfile.TemporaryDirectory() as folder:
+        copy_of_tree(folder)
+        first = (is_proved(folder, program) and is_right(folder, program), 'as it stands')
+        return [first] + [tried(folder, *edit) for edit in EDITS if edit[0] == program]
+
+
+def main():
+    programs, passed, failed = sys.argv[1:] or list(TRIES), 0, 0
+    with concurrent.futures.ThreadPoolExecutor(2) as pool:
+        for program, told in zip(programs, pool.map(answers, programs)):
+            for holds, words in told:
+                passed, failed = passed + holds, failed + (not holds)
+                print('%s, %s%s' % (program, words, '' if holds else ': FAILED'), flush=True)
+    print('%d passed, %d failed' % (passed, failed))
+    return 1 if failed or not passed else 0
+
+
+if __name__ == '__main__':
+    sys.exit(main())
