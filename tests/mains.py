@@ -2,7 +2,7 @@
 """mains.py [PROGRAM..]: wrong programs that no contract can refuse, and that a test fails on.
 
 The toolchain's `read` and `write` say nothing of the bytes, so that the few lines of a `main` which read and write are under no
-contract (docs/PROMISES.md). Here each program is tried on inputs whose output was worked out from document 01 and docs/TEXT.md
+contract (docs/PROMISES.md). Here each program is tried on inputs whose output was worked out from documents 01, 02 and docs/TEXT.md
 alone: as it stands and with a harmless edit of its `main` the outputs must be right; with each wrong edit it must still be
 proved, so that the edit shows what proofs do not see, and an output must be wrong.
 
@@ -22,8 +22,15 @@ ROOT = os.path.dirname(os.path.dirname(os.path.abspath(__file__)))
 DELIVERIES = 16384
 REFUSED = b''.join(b'%d 9 0\n' % (k + 1) for k in range(DELIVERIES - 1)) + b'%d 3 0\n1 0 0\n' % DELIVERIES
 
+# A class of empty sheets, whose lines take more than one part of 16,384 bytes; and one of a longest sheet, whose first number is 0.
+EMPTY = 1500
+CLASS = b'\xdc\x0b' + bytes([1, 1, 0] * EMPTY)
+REPORT = b'class 1\n' + b'1 1 1 1 0 0\n' * EMPTY + b'%d %d 0 0\n' % (EMPTY, EMPTY)
+LONGEST = bytes([1, 7, 1, 128, 128, 2] + [0] * 32768)
+
 # a program: what it reads, and what it must print
 TRIES = {
+    'class_report': [(b'', b'class 1\nstop 3\n'), (CLASS, REPORT), (LONGEST, b'class 1\n7 1 1 1 0 0\n1 1 0 0\n')],
     'ocr_sheet': [(b'', b'0 3 0\n1 0 0\n'), (bytes([2]), b'0 5 0\n1 0 0\n'), (bytes([1] + [9, 1] * DELIVERIES), REFUSED)],
     'text_to_sheet': [(b'1 # a sheet\n10 2\n', bytes([1, 10, 2])), (b'1\n10 two\n', b'line 2\n')],
     'sheet_to_text': [(bytes([1, 10, 2]), b'1\n10 2  # grant\n')],
@@ -38,6 +45,10 @@ EDITS = [
     ('text_to_sheet', True, 'io::write_all(1, &out[..used]);', 'io::write_all(0x1, &out[..used]);'),
     ('text_to_sheet', False, 'io::write_all(1, &out[..used]);', 'io::write_all(2, &out[..used]);'),
     ('sheet_to_text', False, 'io::write_all(1, &out[..used]);', 'io::write_all(2, &out[..used]);'),
+    ('class_report', True, 'io::write_all(1, &lines[..filled]);', 'io::write_all(0x1, &lines[..filled]);'),
+    ('class_report', False, 'io::write_all(1, &lines[..filled]);', 'io::write_all(2, &lines[..filled]);'),
+    ('class_report', False, 'read_asked(n, &mut bytes)', 'read_asked(n % 32768, &mut bytes)'),
+    ('class_report', False, 'let mut turns = u64::MAX;', 'let mut turns = 4096u64;'),
 ]
 
 

@@ -7,38 +7,14 @@
 PROGRAM may carry arguments ("python3 engine.py"). The format of a case is described in tests/sheets/README.md.
 The expected lines were worked out by hand from document 01; no engine made them.
 """
-import pathlib
-import re
-import shlex
-import subprocess
 import sys
+
+from by_hand import BadCase, main, number, shortest
 
 # How many fields follow each operation code, 1 to 12: a record written short or long by mistake would shift all
 # records after it. A record that is wrong on purpose is given by `bytes`.
 FIELDS = (2, 5, 2, 2, 5, 4, 2, 2, 1, 1, 1, 2)
 LIMIT = 4294967295
-SECONDS = 60
-
-
-class BadCase(Exception):
-    """A case file that does not keep to the format."""
-
-
-def number(word, most=LIMIT):
-    """A decimal number without needless zeros, at most `most`."""
-    if not re.fullmatch(r"0|[1-9][0-9]*", word) or int(word) > most:
-        raise BadCase(f"not a number up to {most}: {word!r}")
-    return int(word)
-
-
-def shortest(value):
-    """The fewest bytes that write the number: seven bits a byte, lowest first."""
-    out = bytearray()
-    while value > 127:
-        out.append(value % 128 + 128)
-        value //= 128
-    out.append(value)
-    return bytes(out)
 
 
 def record_bytes(words, first):
@@ -46,12 +22,12 @@ def record_bytes(words, first):
     if words[0] == "repeat":
         if first or len(words) < 3 or words[2] == "repeat" or words[1] == "0":
             raise BadCase("repeat wants a count from 1 and then one record")
-        return number(words[1]) * record_bytes(words[2:], False)
+        return number(words[1], LIMIT) * record_bytes(words[2:], False)
     if words == ["bytes"]:
         raise BadCase("bytes wants at least one byte")
     if words[0] == "bytes":
         return bytes(number(word, 255) for word in words[1:])
-    values = [number(word) for word in words]
+    values = [number(word, LIMIT) for word in words]
     wanted = 0 if first or not 1 <= values[0] <= 12 else FIELDS[values[0] - 1]
     if len(values) != 1 + wanted and (first or wanted):
         raise BadCase(f"{' '.join(words)!r} wants {wanted} numbers after the first")
@@ -62,10 +38,10 @@ def expected_lines(words):
     """The output lines that one line of the case stands for, as tuples of three numbers."""
     if len(words) != 3:
         raise BadCase(f"an expected line has three numbers: {' '.join(words)!r}")
-    second, rises = number(words[1]), words[2].endswith("+")
-    third = number(words[2].removesuffix("+"))
+    second, rises = number(words[1], LIMIT), words[2].endswith("+")
+    third = number(words[2].removesuffix("+"), LIMIT)
     low, dots, high = words[0].partition("..")
-    low, high = number(low), number(high if dots else low)
+    low, high = number(low, LIMIT), number(high if dots else low, LIMIT)
     if (dots and low >= high) or (rises and not dots):
         raise BadCase(f"not a range of lines: {' '.join(words)!r}")
     return [(k, second, third + rises * (k - low)) for k in range(low, high + 1)]
@@ -104,67 +80,5 @@ def read_case(path):
     return bytes(sheet), b"".join(b"%d %d %d\n" % line for line in lines)
 
 
-def difference(expected, got):
-    """The first differing line, in words; None if there is none."""
-    if expected == got:
-        return None
-    want, have = expected.splitlines(keepends=True), got.splitlines(keepends=True)
-    for place in range(max(len(want), len(have))):
-        one, other = (part[place] if place < len(part) else b"" for part in (want, have))
-        if one != other:
-            return f"line {place + 1}: expected {shown(one)}, got {shown(other)}"
-
-
-def shown(line):
-    """A line as it is shown to the reader; what is not plain is shown byte by byte."""
-    if not line:
-        return "no line"
-    plain = re.fullmatch(rb"[ -~]*\n", line)
-    return f"`{line[:-1].decode()}`" if plain else repr(line)[:80]
-
-
-def fault(program, path):
-    """What is wrong with the program on this case; None if nothing is."""
-    try:
-        sheet, expected = read_case(path)
-    except (BadCase, OSError, UnicodeError) as bad:
-        return f"malformed case: {bad}"
-    try:
-        run = subprocess.run(program, input=sheet, stdout=subprocess.PIPE, timeout=SECONDS)
-    except (OSError, subprocess.TimeoutExpired) as bad:
-        return f"the program did not run to its end: {bad}"
-    if run.returncode < 0:
-        return f"the program was ended by signal {-run.returncode}"
-    return difference(expected, run.stdout)
-
-
-def run_cases(program, paths):
-    """Run all cases, print the failing ones and the sum; the exit status."""
-    failed = 0
-    for path in paths:
-        wrong = fault(program, path)
-        if wrong is not None:
-            failed += 1
-            print(f"{path.stem}: {wrong}")
-    print(f"{len(paths) - failed} passed, {failed} failed")
-    return 0 if paths and not failed else 1
-
-
-def main(words):
-    if not words or (words[0] == "--bytes" and len(words) != 2):
-        print(__doc__, file=sys.stderr)
-        return 2
-    if words[0] == "--bytes":
-        try:
-            sys.stdout.buffer.write(read_case(pathlib.Path(words[1]))[0])
-        except (BadCase, OSError, UnicodeError) as bad:
-            print(f"{words[1]}: malformed case: {bad}", file=sys.stderr)
-            return 1
-        return 0
-    named = [pathlib.Path(word) for word in words[1:]]
-    folder = pathlib.Path(__file__).resolve().parent / "sheets"
-    return run_cases(shlex.split(words[0]), named or sorted(folder.glob("*.txt")))
-
-
 if __name__ == "__main__":
-    sys.exit(main(sys.argv[1:]))
+    sys.exit(main(sys.argv[1:], __doc__, "sheets", read_case))

@@ -8,7 +8,7 @@
 
 #include "../include/faltxigor.h"
 
-enum { WORDS = 40518, OBJECTS = 512, LINES = 1024, GUARD = 4096 };
+enum { WORDS = 40518, OBJECTS = 512, LINES = 1024, GUARD = 4096, DEEP = 12288 };
 
 /* A session, and what is to be done on a copy of it. */
 typedef struct {
@@ -19,7 +19,29 @@ typedef struct {
 
 static uint64_t words[WORDS];
 static uint8_t lines[LINES];
+static uint8_t deep[DEEP];
+static size_t deep_length;
 static unsigned passed;
+
+/* A class of two sheets, the one given and the one that makes tasks as deep as there are handles, part by part. */
+static void report(const Work *work, const uint8_t *sheet, size_t length) {
+    static uint8_t file[DEEP + 64];
+    uint64_t state[FALTXIGOR_CLASS_WORDS] = {0};
+    size_t used, at = 0;
+    file[at++] = 2;
+    file[at++] = 1;
+    file[at++] = 1;
+    file[at++] = (uint8_t)length;
+    memcpy(file + at, sheet, length);
+    at += length;
+    file[at++] = 1;
+    file[at++] = 2;
+    file[at++] = (uint8_t)(deep_length | 128);
+    file[at++] = (uint8_t)(deep_length >> 7);
+    memcpy(file + at, deep, deep_length);
+    at += deep_length;
+    while (state[0] != 7 && !faltxigor_class(file, at, state, FALTXIGOR_CLASS_WORDS, words, work->count, lines, 128, &used)) continue;
+}
 
 /* Every function, the ones that write on the same copy: the call first, since a fresh session has no depth. */
 static void *call_all(void *given) {
@@ -35,7 +57,8 @@ static void *call_all(void *given) {
     faltxigor_run(sheet, sizeof sheet, words, work->count, lines, LINES, &used, &place, &number);
     faltxigor_last_line(words, work->count, lines, LINES, &used);
     faltxigor_fresh(words, work->count);
-    passed += 5;
+    report(work, sheet, sizeof sheet);
+    passed += 6;
     return NULL;
 }
 
@@ -91,9 +114,30 @@ static uint64_t chain(uint64_t *memory, uint64_t finish, uint64_t output, int en
     return task;
 }
 
+/* A number of a sheet. */
+static void put_number(uint64_t number) {
+    for (; number > 127; number >>= 7) deep[deep_length++] = (uint8_t)(number | 128);
+    deep[deep_length++] = (uint8_t)number;
+}
+
+/* The chain of tasks as a sheet, and then their ends, the deepest first. */
+static void write_deep(void) {
+    uint64_t task = 2;
+    deep[deep_length++] = 1;
+    memcpy(deep + deep_length, (const uint8_t[]){10, 2, 11, 2, 1, 2, 0}, 7);
+    deep_length += 7;
+    for (uint64_t made = 4; made <= OBJECTS; made++) {
+        const uint64_t record[] = {2, task, 3, 0, 0, 0, 10, made, 11, made};
+        for (size_t place = 0; place < sizeof record / sizeof *record; place++) put_number(record[place]);
+        task = made;
+    }
+    for (; task >= 4; task--) put_number(12), put_number(task), put_number(0);
+}
+
 int main(int count, char **arguments) {
     static uint64_t memory[WORDS];
     size_t stack = count > 1 ? strtoull(arguments[1], NULL, 10) : FALTXIGOR_STACK;
+    write_deep();
     if (faltxigor_fresh(memory, WORDS)) fail("no fresh session");
     try_calls(stack, memory, WORDS, 2);
     try_calls(stack, memory, WORDS - 1, 2);

@@ -10,6 +10,7 @@ import pathlib
 import subprocess
 import sys
 
+import by_hand
 import sheets
 
 NAMES = "template task event block dependence satisfy release destroy deliver grant start end".split()
@@ -38,7 +39,7 @@ def read_number(data, at):
     if end == len(data):
         return 3, None, None
     value = sum((data[i] & 127) << 7 * (i - at) for i in range(at, end + 1))
-    good = value <= sheets.LIMIT and sheets.shortest(value) == data[at:end + 1]
+    good = value <= sheets.LIMIT and by_hand.shortest(value) == data[at:end + 1]
     return 0 if good else 4, value, end + 1
 
 
@@ -74,7 +75,7 @@ def text_of(data):
 
 def run(program, data):
     """What the program writes to descriptors 1 and 2."""
-    ran = subprocess.run([program], input=data, capture_output=True, timeout=sheets.SECONDS, check=True)
+    ran = subprocess.run([program], input=data, capture_output=True, timeout=by_hand.SECONDS, check=True)
     return ran.stdout, ran.stderr
 
 

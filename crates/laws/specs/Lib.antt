@@ -75,3 +75,4 @@ pub mod FinishFires
 pub mod FiresFirst
 pub mod Demand
 pub mod OwnFields
+pub mod SoundTidy

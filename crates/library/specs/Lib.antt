@@ -1,3 +1,5 @@
 pub mod Called
 pub mod Calls
 pub mod Sheets
+pub mod Classes
+pub mod ClassCalls

@@ -11,6 +11,10 @@ ghost use Rattle.library.specs.Sheets.{endedBy, closedBy};
 use rules::Answer;
 use rules::Operation;
 
+mod classes;
+
+pub use classes::faltxigor_class;
+
 // Writes a fresh session: the refusal, 0 if done; 1 where the memory is too short, which then stays as it was.
 #[no_mangle]
 pub extern "C" fn faltxigor_fresh(memory: &mut [u64]) -> u64

@@ -5,12 +5,12 @@ ghost use lib.ListN.{length};
 ghost use Rattle.number.specs.Number.{splice};
 ghost use Rattle.lines.specs.Line.{marked, line};
 
-const SPACE: u8 = 32;
+pub const SPACE: u8 = 32;
 
-const NEWLINE: u8 = 10;
+pub const NEWLINE: u8 = 10;
 
 // Writes a number and a mark behind it, and answers the place behind them. Internal: the caller has shown that there is room.
-fn write_marked(out: &mut [u8], at: usize, v: u64, mark: u8) -> usize
+pub fn write_marked(out: &mut [u8], at: usize, v: u64, mark: u8) -> usize
     requires { ⌜ at + length (marked v mark) ≤ length (now out) ⌝ }
     ensures answer { λ r. ⌜ r ≡ at + length (marked v mark) ⌝ }
     ensures bytes { λ r. ⌜ now (out .exit) ≡ splice (now (out .entry)) at (marked v mark) ⌝ }

@@ -2,6 +2,7 @@
 use mathlib.Core.Path.{_≡_, refl}
 use mathlib.Core.List.{[], _∷_}
 use Rattle.number.specs.Number.{limit32, encode, encodeIn, readAt, readFirst, judged, shortest, lastByte, value, more}
+use Rattle.number.specs.Fed.{start, spoilt, groupFits, shortEnd, ended, onward, fed, feeds}
 use Rattle.number.specs.declared.Reading.the-variants.{Value, Bad, CutShort}
 
 -- "bytes 128 0: refusal 4; 128 1 is 128". A bad number is refusal 4.
@@ -34,3 +35,27 @@ pub cut : (readAt limit32 [] 0 ≡ CutShort)
     × (readAt limit32 (9 ∷ 128 ∷ 128 ∷ 128 ∷ 128 ∷ 128 ∷ 128 ∷ []) 1 ≡ CutShort)
 unfolding readAt readFirst judged shortest lastByte value more
 cut = (refl, refl, refl)
+
+-- The same of bytes that are fed one by one.
+pub fed-P6 : (feeds limit32 start (128 ∷ 0 ∷ []) 0 ≡ Bad 2) × (feeds limit32 start (128 ∷ 1 ∷ []) 0 ≡ Value 128 2)
+unfolding feeds fed ended onward shortEnd groupFits start spoilt
+fed-P6 = (refl, refl)
+
+pub fed-limit-32 : (feeds limit32 start (255 ∷ 255 ∷ 255 ∷ 255 ∷ 15 ∷ []) 0 ≡ Value limit32 5)
+    × (feeds limit32 start (128 ∷ 128 ∷ 128 ∷ 128 ∷ 16 ∷ []) 0 ≡ Bad 5)
+unfolding feeds fed ended onward shortEnd groupFits start spoilt
+fed-limit-32 = (refl, refl)
+
+pub fed-limit-64 : (feeds 18446744073709551615 start (255 ∷ 255 ∷ 255 ∷ 255 ∷ 255 ∷ 255 ∷ 255 ∷ 255 ∷ 255 ∷ 1 ∷ []) 0 ≡ Value 18446744073709551615 10)
+    × (feeds 18446744073709551615 start (128 ∷ 128 ∷ 128 ∷ 128 ∷ 128 ∷ 128 ∷ 128 ∷ 128 ∷ 128 ∷ 2 ∷ []) 0 ≡ Bad 10)
+unfolding feeds fed ended onward shortEnd groupFits start spoilt
+fed-limit-64 = (refl, refl)
+
+pub fed-long : (feeds 18446744073709551615 start (128 ∷ 128 ∷ 128 ∷ 128 ∷ 128 ∷ 128 ∷ 128 ∷ 128 ∷ 128 ∷ 128 ∷ 128 ∷ 0 ∷ 7 ∷ []) 0 ≡ Bad 12)
+    × (feeds 18446744073709551615 start (128 ∷ 128 ∷ 128 ∷ 128 ∷ 128 ∷ 128 ∷ 128 ∷ 128 ∷ 128 ∷ 128 ∷ 128 ∷ 1 ∷ 7 ∷ []) 0 ≡ Bad 12)
+unfolding feeds fed ended onward shortEnd groupFits start spoilt
+fed-long = (refl, refl)
+
+pub fed-cut : (feeds limit32 start [] 0 ≡ CutShort) × (feeds limit32 start (128 ∷ 128 ∷ 128 ∷ 128 ∷ 128 ∷ 128 ∷ []) 1 ≡ CutShort)
+unfolding feeds fed ended onward shortEnd groupFits start spoilt
+fed-cut = (refl, refl)

@@ -4,4 +4,7 @@ pub mod Decode
 pub mod Cases
 pub mod Splice
 pub mod Laws
+pub mod Fed
+pub mod FedCases
+pub mod FedLaws
 pub mod Edges

@@ -4,6 +4,13 @@ ghost use Prim.Native.Nat.{_%_};
 ghost use lib.ListN.{length};
 ghost use Rattle.number.specs.Number.{encode, judged, readAt, written, memory};
 
+mod reader;
+
+pub use reader::Fed;
+pub use reader::Reader;
+pub use reader::feed;
+pub use reader::start;
+
 // The limit of document 01.
 pub const LIMIT_32: u64 = 4294967295;
 

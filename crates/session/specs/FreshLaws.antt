@@ -1,17 +1,17 @@
 -- How a fresh session gets into memory: zeros are the empty session, and what a call leaves in short and in long memory.
 use Prim.Native.Nat.{ℕ, _+_, _<_, _≤_}
-use mathlib.Core.Path.{_≡_, refl, fun-ext, sym, _∙_}
+use mathlib.Core.Path.{_≡_, refl, fun-ext, _∙_}
 use mathlib.Core.List.{List}
 use mathlib.Core.Bool.{Bool, true, false}
 use native.Mathlib.Omega.{arith}
 use native.Mathlib.Decide.{decLt}
 use lib.ListN.{length, getD, set, drop}
 use lib.Seq.{getD-set-same, getD-set-other, drop-set-lt}
-use lib.Dec.{ltb, leb}
+use lib.Dec.{ltb}
 use borrow.Author.Tests.{ltb-true, le-leb, lt-leb}
 use Rattle.session.specs.Table.{Session, Wrote, read, pick, base, size, words}
 use Rattle.session.specs.TableLaws.{inside}
-use Rattle.session.specs.Fresh.{Leaves, refusedLength, emptySession}
+use Rattle.session.specs.Fresh.{Leaves, emptySession}
 use Rattle.session.specs.declared.Field.{Field}
 
 pub zeros-empty : (ws : List ℕ) → ((k : ℕ) → k < words → getD ws k 0 ≡ 0) → read ws ≡ emptySession
@@ -39,18 +39,3 @@ leaves-short ws s h = rw (lt-leb words (length ws) h) refl
 
 pub leaves-written : {a b : List ℕ} {s : Session} → words ≤ length a → Wrote a b s → Leaves a b s
 leaves-written {a} h w = rw (le-leb words (length a) h) w
-
--- what the refusal says of the length
-pub length-refused : (ws : List ℕ) (r : ℕ) → r ≡ refusedLength ws → (r ≡ 0 → ⊥) → leb words (length ws) ≡ false
-length-refused ws r e f = go (leb words (length ws)) e
-  where
-    go : (b : Bool) → r ≡ pick b 0 1 → b ≡ false
-    go true e = absurd (f e)
-    go false e = refl
-
-pub length-taken : (ws : List ℕ) (r : ℕ) → r ≡ refusedLength ws → r ≡ 0 → leb words (length ws) ≡ true
-length-taken ws r e z = go (leb words (length ws)) e
-  where
-    go : (b : Bool) → r ≡ pick b 0 1 → b ≡ true
-    go true e = refl
-    go false e = absurd (omega (arith, sym z ∙ e))

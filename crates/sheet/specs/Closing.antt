@@ -72,7 +72,7 @@ line-closing a b c ha hb hc =
     omega arith
 
 -- places where the formula fails are not counted
-count-past : (d m : ℕ) (f : ℕ → Formula) → ((i : ℕ) → m ≤ i → holds (f i) → ⊥) → count (d + m) f ≡ count m f
+pub count-past : (d m : ℕ) (f : ℕ → Formula) → ((i : ℕ) → m ≤ i → holds (f i) → ⊥) → count (d + m) f ≡ count m f
 count-past zero m f h = let e : 0 + m ≡ m = omega arith in ap (λ (n : ℕ). count n f) e
 count-past (suc d) m f h =
     let e : suc d + m ≡ suc (d + m) = omega arith in

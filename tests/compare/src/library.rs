@@ -36,6 +36,17 @@ extern "C" {
         line_bytes: usize,
         used: *mut usize,
     ) -> u64;
+    fn faltxigor_class(
+        file: *const u8,
+        file_bytes: usize,
+        state: *mut u64,
+        state_words: usize,
+        memory: *mut u64,
+        words: usize,
+        lines: *mut u8,
+        line_bytes: usize,
+        used: *mut usize,
+    ) -> u64;
 }
 
 // Not of the header and offered to nobody: the crate `unchecked`, which is for measuring and comparison alone.
@@ -174,6 +185,31 @@ impl Memory {
         let (memory, words) = (self.words.as_ptr(), self.words.len());
         // SAFETY: as in `run`; the words are only read.
         let refused = unsafe { faltxigor_last_line(memory, words, lines.as_mut_ptr(), lines.len(), &mut used) };
+        (refused, used)
+    }
+
+    /// A part of a class report, into the start of `lines`: the refusal and the lines' length.
+    pub fn class(&mut self, file: &[u8], state: &mut [u64], lines: &mut [u8]) -> (u64, usize) {
+        // Not what it is to be, so that a call that forgets to write it is seen.
+        let mut used = usize::MAX;
+        let (memory, words) = (self.words.as_mut_ptr(), self.words.len());
+        // SAFETY: as in `fresh`, of four slices; the number is a variable of its own.
+        let refused = unsafe {
+            faltxigor_class(
+                file.as_ptr(),
+                file.len(),
+                state.as_mut_ptr(),
+                state.len(),
+                memory,
+                words,
+                lines.as_mut_ptr(),
+                lines.len(),
+                &mut used,
+            )
+        };
+        if refused == 0 {
+            self.known.set(Known::Kept);
+        }
         (refused, used)
     }
 

@@ -1,11 +1,13 @@
 //! The second engine: an independent reading of document 01, to be compared with the proved one.
 //!
 //! One idea a file. The doc comments quote the sentence of document 01 that the code follows; "reading n" is section 7
-//! of the design.
+//! of the design. The class report follows request E1 of document 02.
 
 pub mod call;
 pub mod census;
 pub mod checks;
+pub mod class;
+pub mod classes;
 pub mod counts;
 pub mod descent;
 pub mod hold;

@@ -4,7 +4,7 @@ use crate::number::{number_bytes, number_value, write_number, MAX_NUMBER};
 use crate::operation::{field_count, Operation, MAX_FIELDS};
 
 /// One number and where the next one begins, or the refusal 3 or 4.
-fn read_number(bytes: &[u8]) -> Result<(u64, usize), u32> {
+pub fn read_number(bytes: &[u8]) -> Result<(u64, usize), u32> {
     let number = number_bytes(bytes).ok_or(3u32)?;
     let value = number_value(number).ok_or(4u32)?;
     Ok((value, number.len()))
@@ -17,14 +17,13 @@ fn read_number(bytes: &[u8]) -> Result<(u64, usize), u32> {
 pub fn read_record(bytes: &[u8]) -> Result<(Operation, usize), u32> {
     let (code, mut used) = read_number(bytes)?;
     let count = field_count(code).ok_or(6u32)?;
-    let mut found: Vec<&[u8]> = vec![];
-    for _ in 0..count {
-        let number = number_bytes(&bytes[used..]).ok_or(3u32)?;
+    let mut found: [&[u8]; MAX_FIELDS] = [&[]; MAX_FIELDS];
+    for number in &mut found[..count] {
+        *number = number_bytes(&bytes[used..]).ok_or(3u32)?;
         used += number.len();
-        found.push(number);
     }
     let mut fields = [0; MAX_FIELDS];
-    for (field, number) in fields.iter_mut().zip(found) {
+    for (field, number) in fields.iter_mut().zip(&found[..count]) {
         *field = number_value(number).ok_or(4u32)?;
     }
     Ok((Operation { code, fields }, used))

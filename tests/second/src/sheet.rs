@@ -1,7 +1,7 @@
 //! Running sheets.
 
 use crate::lines::{answer_line, last_line};
-use crate::operation::Answer;
+use crate::operation::{Answer, Operation};
 use crate::record::{read_first, read_record};
 use crate::session::Session;
 
@@ -23,28 +23,36 @@ pub fn run_over(session: &mut Session, sheet: &[u8]) -> Vec<u8> {
     run_records(session, sheet, true).into_bytes()
 }
 
-/// "Refusals 2 to 6 end the sheet with that line, numbered as the record begun (0 for the first number)".
+/// The answer lines of a run, as they are printed.
 fn run_records(session: &mut Session, sheet: &[u8], lent: bool) -> String {
     let mut lines = String::new();
+    run_each(session, sheet, lent, |record, _, answer| lines.push_str(&answer_line(record, answer)));
+    lines
+}
+
+/// Run a sheet and hand on each answer: the record's number, its operation (`None` if it could not be read), the
+/// answer. "Refusals 2 to 6 end the sheet with that line, numbered as the record begun (0 for the first number)".
+pub(crate) fn run_each(
+    session: &mut Session,
+    sheet: &[u8],
+    lent: bool,
+    mut answered: impl FnMut(u64, Option<Operation>, Answer),
+) {
     let mut rest = match begin(session, sheet, lent) {
         Ok(used) => &sheet[used..],
-        Err(refused) => return answer_line(0, Answer { refused, made: 0 }),
+        Err(refused) => return answered(0, None, Answer { refused, made: 0 }),
     };
     let mut record = 0;
     while !rest.is_empty() {
         record += 1;
         match step(session, rest, lent) {
-            Ok((answer, used)) => {
-                lines.push_str(&answer_line(record, answer));
+            Ok((operation, answer, used)) => {
+                answered(record, Some(operation), answer);
                 rest = &rest[used..];
             }
-            Err(refused) => {
-                lines.push_str(&answer_line(record, Answer { refused, made: 0 }));
-                break;
-            }
+            Err(refused) => return answered(record, None, Answer { refused, made: 0 }),
         }
     }
-    lines
 }
 
 fn begin(session: &Session, sheet: &[u8], lent: bool) -> Result<usize, u32> {
@@ -54,11 +62,11 @@ fn begin(session: &Session, sheet: &[u8], lent: bool) -> Result<usize, u32> {
     read_first(sheet)
 }
 
-/// Run the record that begins here: its answer and length, or the refusal that ends the sheet.
-fn step(session: &mut Session, rest: &[u8], lent: bool) -> Result<(Answer, usize), u32> {
+/// Run the record that begins here: its operation, answer and length, or the refusal that ends the sheet.
+fn step(session: &mut Session, rest: &[u8], lent: bool) -> Result<(Operation, Answer, usize), u32> {
     if lent && !session.is_sound() {
         return Err(2);
     }
     let (operation, used) = read_record(rest)?;
-    Ok((session.apply(&operation), used))
+    Ok((operation, session.apply(&operation), used))
 }

@@ -45,8 +45,20 @@ const THEMES: [Theme; 16] = [
 
 /// Sheet `index` of a seed: always the same bytes, at most 32,768 of them.
 pub fn random_sheet(seed: u64, index: u64) -> Vec<u8> {
-    let mut random = Random::part(seed, index);
-    let theme = THEMES[index as usize % THEMES.len()];
+    themed_sheet(Random::part(seed, index), THEMES[index as usize % THEMES.len()])
+}
+
+/// A sheet of less than 60 bytes or so, in two cases of five with a fault: a class has room for many of them.
+pub fn short_sheet(random: &mut Random) -> Vec<u8> {
+    let mut sheet = themed_sheet(Random::new(random.draw()), Theme::Short);
+    if random.percent(40) {
+        let theme = random.among(&[Theme::Cut, Theme::Flipped, Theme::Spoilt, Theme::First]);
+        spoil(&mut sheet, theme, random);
+    }
+    sheet
+}
+
+fn themed_sheet(mut random: Random, theme: Theme) -> Vec<u8> {
     let (goal, length) = match theme {
         Theme::Short => (Goal::Nothing, random.below(60)),
         Theme::Long => (Goal::Nothing, MAX_SHEET as u64 - random.below(40)),

@@ -45,27 +45,27 @@ struct Named {
     admits: Admits,
 }
 
-fn needed(handle: u64, admits: Admits) -> Named {
-    Named { handle, null: false, admits }
+fn needed(handle: u64, admits: Admits) -> Option<Named> {
+    Some(Named { handle, null: false, admits })
 }
 
-fn or_null(handle: u64, admits: Admits) -> Named {
-    Named { handle, null: true, admits }
+fn or_null(handle: u64, admits: Admits) -> Option<Named> {
+    Some(Named { handle, null: true, admits })
 }
 
-/// The handle fields, in order; a link number is no handle.
-fn named(call: &Call) -> Vec<Named> {
+/// The handle fields, in order, two at most; a link number is no handle.
+fn named(call: &Call) -> [Option<Named>; 2] {
     match *call {
-        Call::Template { .. } | Call::Event { .. } | Call::Block { .. } | Call::Deliver { .. } => vec![],
-        Call::Task { template, .. } => vec![needed(template, Admits::Template)],
+        Call::Template { .. } | Call::Event { .. } | Call::Block { .. } | Call::Deliver { .. } => [None, None],
+        Call::Task { template, .. } => [needed(template, Admits::Template), None],
         Call::Dependence { source, destination, .. } => {
-            vec![or_null(source, Admits::Source), needed(destination, Admits::Destination)]
+            [or_null(source, Admits::Source), needed(destination, Admits::Destination)]
         }
-        Call::Satisfy { event, block, .. } => vec![needed(event, Admits::Event), or_null(block, Admits::Block)],
-        Call::Release { block, .. } => vec![needed(block, Admits::Block)],
-        Call::Destroy { object, .. } => vec![needed(object, Admits::Destroyable)],
-        Call::Grant { task } | Call::Start { task } => vec![needed(task, Admits::Task)],
-        Call::End { task, block } => vec![needed(task, Admits::Task), or_null(block, Admits::Block)],
+        Call::Satisfy { event, block, .. } => [needed(event, Admits::Event), or_null(block, Admits::Block)],
+        Call::Release { block, .. } => [needed(block, Admits::Block), None],
+        Call::Destroy { object, .. } => [needed(object, Admits::Destroyable), None],
+        Call::Grant { task } | Call::Start { task } => [needed(task, Admits::Task), None],
+        Call::End { task, block } => [needed(task, Admits::Task), or_null(block, Admits::Block)],
     }
 }
 
@@ -74,7 +74,8 @@ pub fn never_made(session: &Session, call: &Call) -> bool {
     if let Call::Deliver { link } = *call {
         return session.link(link).is_none();
     }
-    named(call).iter().any(|field| session.object(field.handle).is_none() && !(field.null && field.handle == 0))
+    let missing = |field: &Named| session.object(field.handle).is_none() && !(field.null && field.handle == 0);
+    named(call).iter().flatten().any(missing)
 }
 
 fn admitted(admits: Admits, object: &Object) -> bool {
@@ -93,13 +94,13 @@ fn admitted(admits: Admits, object: &Object) -> bool {
 /// "10. A handle names a wrong kind, or an event of a type not admitted."
 pub fn wrong_kind(session: &Session, call: &Call) -> bool {
     let wrong = |field: &Named| session.object(field.handle).is_some_and(|object| !admitted(field.admits, object));
-    named(call).iter().any(wrong)
+    named(call).iter().flatten().any(wrong)
 }
 
 /// "11. An object named is gone: destroyed, ended, doomed (but for release), or a fired once, latch or output."
 pub fn gone(session: &Session, call: &Call) -> bool {
     let release = matches!(call, Call::Release { .. });
-    named(call).iter().any(|field| match session.object(field.handle) {
+    named(call).iter().flatten().any(|field| match session.object(field.handle) {
         None => false,
         Some(Object::Template(template)) => template.destroyed,
         Some(Object::Task(task)) => !task.is_live(),

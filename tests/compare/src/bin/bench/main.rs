@@ -1,7 +1,9 @@
 mod by_operation;
+mod classes;
 mod passes;
 mod sheets;
 
+use std::env;
 use std::time::{Duration, Instant};
 
 use compare::stages::Grown;
@@ -27,8 +29,12 @@ struct Figures {
     nanos: [f64; WAYS],
 }
 
-/// Calls per second and cost of a call, the proved engine beside the second one; docs/BENCHMARKS.md says how.
+/// Calls per second and cost of a call, the proved engine beside the second one; docs/BENCHMARKS.md says how. With the
+/// word `classes`, class reports alone.
 fn main() {
+    if env::args().nth(1).as_deref() == Some("classes") {
+        return classes::print_table();
+    }
     let sizes = [(32, 128), (64, 256), (128, 512), (256, 1_024), (512, 2_048)];
     let figures: Vec<Figures> = sizes.iter().map(|(objects, links)| measure(*objects, *links)).collect();
     println!("{} batches of {CALLS} calls a session, the median of up to {ROUNDS} rounds", BATCHES);
@@ -55,6 +61,8 @@ fn main() {
     by_operation::print_table([(64, 256), (512, 2_048)]);
     println!();
     sheets::print_tables();
+    println!();
+    classes::print_table();
 }
 
 fn speed_rows(name: &str, row: &Figures) {

@@ -1,0 +1,26 @@
+-- `class::steps::print_sums` meets its contract.
+use native.Mathlib.Omega.{arith}
+use borrow.Author.Needs.{needs}
+use Rattle.class.proofs.steps.print_sums.Statement.{statement}
+use Rattle.class.proofs.steps.print_sums.Tie as tie
+
+write-counts-requires : tie.Need-write-counts-requires
+write-counts-requires c κs = search needs
+
+start-requires : tie.Need-start-requires
+start-requires c κs = search needs
+
+at-stage-requires : tie.Need-at-stage-requires
+at-stage-requires c κs = search needs
+
+same-length : tie.Need-same-length
+same-length c = search needs
+
+returns : tie.Need-returns
+returns c =
+    let w = c .before .before .before .before .write-counts .ensures in
+    record { report = rw (c .before .start .ensures) at (c .at-stage .ensures); line = w .0; short = omega (arith, w .1) }
+
+pub print-sums-spec : {M : Type 1} → statement M
+print-sums-spec =
+    tie.close (tie.spec write-counts-requires start-requires at-stage-requires same-length returns)

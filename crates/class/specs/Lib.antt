@@ -1,0 +1,11 @@
+pub mod Report
+pub mod Standing
+pub mod Steps
+pub mod StepLaws
+pub mod Sums
+pub mod Stepped
+pub mod LineLengths
+pub mod Chains
+pub mod Parts
+pub mod Edges
+pub mod After

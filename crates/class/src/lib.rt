@@ -1,0 +1,58 @@
+// The class report: a line for each sheet of a class file, and the sums. It goes step by step: a report asks for some bytes of the
+// file and is handed them, so that a file of any length is reported from memory for one sheet.
+mod parts;
+mod printing;
+mod steps;
+
+use number::Reader;
+pub use parts::report_part;
+use sheet_counts::Tally;
+pub use steps::asks;
+pub use steps::begin;
+pub use steps::is_over;
+pub use steps::take;
+
+// How many bytes must be free before a line is written.
+pub const ROOM: usize = 128;
+
+// The longest sheet.
+pub const MOST_BYTES: usize = 32768;
+
+// What a report prints or reads next: its head, the number of sheets, an entry's learner, turn and length, its sheet, the sums; or
+// nothing.
+pub enum Stage {
+    Head,
+    Count,
+    Learner,
+    Turn,
+    Length,
+    Sheet,
+    Sums,
+    Nothing,
+}
+
+// Where a report stands: what comes next, the number that is being read, how many entries are left with this one, what was read
+// of this one, and the tally of those before.
+pub struct Report {
+    pub stage: Stage,
+    pub number: Reader,
+    pub left: u64,
+    pub learner: u64,
+    pub turn: u64,
+    pub length: u64,
+    pub tally: Tally,
+}
+
+// What a step leaves: where the report stands then, and the length of what it printed.
+pub struct Step {
+    pub report: Report,
+    pub used: usize,
+}
+
+// A part of a report: the refusal, 0 if there was none, the length of the lines, and the place and the report where to go on.
+pub struct Part {
+    pub refused: u64,
+    pub used: usize,
+    pub place: usize,
+    pub report: Report,
+}

@@ -1,0 +1,60 @@
+-- `class_report::gather` meets its contract: the line lies within the memory behind the lines before it.
+use native.Mathlib.Omega.{arith}
+use Rattle.lines.specs.LineLaws.{splice-tail}
+use borrow.Author.Needs.{needs}
+use Rattle.class_report.proofs.gather.Statement.{statement}
+use Rattle.class_report.proofs.gather.Tie as tie
+
+sub-take : tie.Need-sub-take
+sub-take c = search needs
+
+part-take-start : tie.Need-part-take-start
+part-take-start c = search needs
+
+part-take-end : tie.Need-part-take-end
+part-take-end c = search needs
+
+take-requires : tie.Need-take-requires
+take-requires c κs = search needs
+
+add-t11 : tie.Need-add-t11
+add-t11 c = omega (arith, c .before .before .before .before .before .before .take .ensures .moved .short, c .before .before .before .before .before .before .before .before .before .before .before .before .pre .2)
+
+same-length : tie.Need-same-length
+same-length c = search needs
+
+same-length-2 : tie.Need-same-length-2
+same-length-2 c = search needs
+
+returns : tie.Need-returns
+returns c =
+    let start = c .before .before .before .before .before .before .before .before .before .before .before .before in
+    let a = start .args in
+    let r = start .pre .0 in
+    let t = c .before .before .before .before .before .before .take in
+    let line = t .ensures .moved .line in (
+      t .ensures .moved .report,
+      (
+        record {
+          place = omega (arith, line .place);
+          written = rw (line .written) (splice-tail (a .lines .now) (a .filled) _ (omega (arith, start .pre .1, start .pre .2)));
+        },
+        (
+          record { lends = (rw (t .kept .1 .1 .0) (r .lends .0), rw (same-length-2 c) (r .lends .1)); keeps = t .ensures .keeps },
+          rw (same-length-2 c) (omega (arith, t .ensures .moved .short, start .pre .1, start .pre .2)),
+        ),
+      ),
+    )
+
+pub gather-spec : {M : Type 1} → statement M
+gather-spec =
+    tie.close
+    (tie.spec
+    sub-take
+    part-take-start
+    part-take-end
+    take-requires
+    add-t11
+    same-length
+    same-length-2
+    returns)

@@ -1,0 +1,125 @@
+-- `class_report::main` is safe and ends: there is room for each step's line, and the session in memory stays kept.
+use Prim.Native.Nat.{ℕ, _+_, _≤_}
+use mathlib.Core.Path.{_≡_, sym, _∙_}
+use native.Mathlib.Omega.{arith}
+use borrow.Author.Needs.{needs}
+use lib.ListN.{length, replicate, length-replicate}
+use lib.Seq.{length-take-le}
+use Rattle.sheet.specs.Printing.{Ready, ready-fresh}
+use Rattle.class_report.proofs.main.Statement.{statement}
+use Rattle.class_report.proofs.main.Tie as tie
+
+abbrev Inv-loop : tie.InvT-loop
+Inv-loop memory₀ bytes₀ lines₀ filled₀ report₀ turns₀ memory bytes lines filled report turns =
+    Ready memory lines × (length memory ≡ 40518) × (length bytes ≡ 32768) × (length lines ≡ 16384) × (filled + 128 ≤ 16384)
+
+abbrev μ-loop : tie.MeasureT-loop
+μ-loop memory₀ bytes₀ lines₀ filled₀ report₀ turns₀ memory bytes lines filled report turns = turns
+
+slice-aggregate-write-fresh : tie.Need-slice-aggregate-write-fresh Inv-loop μ-loop
+slice-aggregate-write-fresh c = search needs
+
+write-fresh-requires : tie.Need-write-fresh-requires Inv-loop μ-loop
+write-fresh-requires c κs = search needs
+
+begin-requires : tie.Need-begin-requires Inv-loop μ-loop
+begin-requires c κs = search needs
+
+loop-holds : tie.Need-loop-holds Inv-loop μ-loop
+loop-holds c =
+    let m = length-replicate {A = ℕ} 40518 0 in
+    let b = length-replicate {A = ℕ} 32768 0 in
+    let l = length-replicate {A = ℕ} 16384 0 in
+    let w = c .before .before .write-fresh in
+    (ready-fresh (replicate 40518 0) _ (replicate 16384 0) (omega arith) (omega arith) (w .ensures .1), w .kept .0 ∙ m, b, l, omega arith)
+
+asks-requires : tie.Need-asks-requires Inv-loop μ-loop
+asks-requires c κs = search needs
+
+slice-aggregate-read-asked : tie.Need-slice-aggregate-read-asked Inv-loop μ-loop
+slice-aggregate-read-asked c = search needs
+
+read-asked-requires : tie.Need-read-asked-requires Inv-loop μ-loop
+read-asked-requires c κs = search needs
+
+array-share-prefix-bytes : tie.Need-array-share-prefix-bytes Inv-loop μ-loop
+array-share-prefix-bytes c = search needs
+
+slice-aggregate-gather : tie.Need-slice-aggregate-gather Inv-loop μ-loop
+slice-aggregate-gather c = sym (length-take-le _ _ (c .before .before .read-asked .ensures))
+
+slice-aggregate-gather-2 : tie.Need-slice-aggregate-gather-2 Inv-loop μ-loop
+slice-aggregate-gather-2 c = search needs
+
+slice-aggregate-gather-3 : tie.Need-slice-aggregate-gather-3 Inv-loop μ-loop
+slice-aggregate-gather-3 c = search needs
+
+gather-requires : tie.Need-gather-requires Inv-loop μ-loop
+gather-requires c κs =
+    let i = c .before .before .before .before .before .before .before .before .loop .inv in
+    (i .0, search needs, i .4)
+
+enum-told : tie.Need-enum-told Inv-loop μ-loop
+enum-told c = search needs
+
+array-share-prefix-lines : tie.Need-array-share-prefix-lines Inv-loop μ-loop
+array-share-prefix-lines c = c .before .before .before .before .before .gather .ensures .1 .1 .1
+
+slice-aggregate-write-all : tie.Need-slice-aggregate-write-all Inv-loop μ-loop
+slice-aggregate-write-all c = sym (length-take-le _ _ (c .before .before .before .before .before .before .gather .ensures .1 .1 .1))
+
+write-all-requires : tie.Need-write-all-requires Inv-loop μ-loop
+write-all-requires c κs = search needs
+
+returns : tie.Need-returns Inv-loop μ-loop
+returns c = search needs
+
+slice-aggregate-write-full : tie.Need-slice-aggregate-write-full Inv-loop μ-loop
+slice-aggregate-write-full c = search needs
+
+write-full-requires : tie.Need-write-full-requires Inv-loop μ-loop
+write-full-requires c κs = c .before .before .before .before .before .gather .ensures .1 .1 .1
+
+sub-turns : tie.Need-sub-turns Inv-loop μ-loop
+sub-turns c = search needs
+
+loop-less : tie.Need-loop-less Inv-loop μ-loop
+loop-less c = search needs
+
+loop-again : tie.Need-loop-again Inv-loop μ-loop
+loop-again c =
+    let g = c .before .before .before .before .before .before .gather in
+    (g .ensures .1 .1 .0, search needs, search needs, search needs, c .write-full .ensures)
+
+returns-2 : tie.Need-returns-2 Inv-loop μ-loop
+returns-2 c = search needs
+
+pub main-spec : {M : Type 1} → statement M
+main-spec =
+    tie.close
+    (tie.spec
+    Inv-loop
+    μ-loop
+    slice-aggregate-write-fresh
+    write-fresh-requires
+    begin-requires
+    loop-holds
+    asks-requires
+    slice-aggregate-read-asked
+    read-asked-requires
+    array-share-prefix-bytes
+    slice-aggregate-gather
+    slice-aggregate-gather-2
+    slice-aggregate-gather-3
+    gather-requires
+    enum-told
+    array-share-prefix-lines
+    slice-aggregate-write-all
+    write-all-requires
+    returns
+    slice-aggregate-write-full
+    write-full-requires
+    sub-turns
+    loop-less
+    loop-again
+    returns-2)

@@ -1,0 +1,13 @@
+pub mod Answers
+pub mod HowMany
+pub mod Telling
+pub mod AnswerCases
+pub mod Counting
+pub mod Fresh
+pub mod TextRead
+pub mod TextReadLaws
+pub mod AnswerLaws
+pub mod Bounds
+pub mod Started
+pub mod Plain
+pub mod Edges

@@ -1,0 +1,126 @@
+#!/usr/bin/env python3
+"""class_stream.py PROGRAM: a class program takes its input as a stream.
+
+A class of 200,000 sheets, made while it is read and never whole anywhere, is reported right, in under 8 MB of resident
+memory and in no more than a class of two takes. Of standard input no byte after the last sheet is read: each class is
+followed by other bytes, which must be left in the pipe, and in a file that is read from a place on. (The lines are
+gathered before they are written: they need not come as the sheets come.) Prints `N passed, M failed`.
+"""
+import fcntl
+import os
+import re
+import struct
+import subprocess
+import sys
+import tempfile
+import termios
+import time
+
+from by_hand import shortest
+
+MANY = 200000
+MOST_KB = 8192
+NOISE_KB = 512
+SECONDS = 60
+AFTER = b'\1\2\3 bytes after the last sheet\n'
+# Main is granted and started: two records, one start.
+SHEET = bytes([1, 10, 2, 11, 2])
+
+
+def entry(learner, sheet):
+    return shortest(learner) + b'\1' + shortest(len(sheet)) + sheet
+
+
+def parts(count):
+    """A class file of so many short sheets, some at a time."""
+    yield shortest(count)
+    for first in range(0, count, 1000):
+        yield b''.join(entry(k, SHEET) for k in range(first, min(first + 1000, count)))
+
+
+def report(count):
+    """The class report of such a file."""
+    yield b'class 1\n'
+    for first in range(0, count, 1000):
+        yield b''.join(b'%d 1 2 0 1 0\n' % k for k in range(first, min(first + 1000, count)))
+    yield b'%d 0 %d 0\n' % (2 * count, count)
+
+
+def streamed(program, count):
+    """What the program prints of a class that is written into a pipe; and how much memory was resident, in KB, at most, when it
+    waited for the last byte."""
+    with tempfile.TemporaryFile() as printed:
+        run = subprocess.Popen([program], stdin=subprocess.PIPE, stdout=printed)
+        last = b''
+        for part in parts(count):
+            run.stdin.write(last + part[:-1])
+            last = part[-1:]
+        run.stdin.flush()
+        while struct.unpack('i', fcntl.ioctl(run.stdin, termios.FIONREAD, bytes(4)))[0]:
+            time.sleep(0.01)
+        with open('/proc/%d/status' % run.pid, encoding='ascii') as status:
+            resident = int(re.search(r'VmHWM:\s*(\d+) kB', status.read()).group(1))
+        run.stdin.write(last)
+        run.stdin.close()
+        run.wait(SECONDS)
+        printed.seek(0)
+        return printed.read(), resident
+
+
+def left_in_pipe(program, file):
+    """What the program prints of a class file in a pipe, and what it leaves there."""
+    reading, writing = os.pipe()
+    os.write(writing, file + AFTER)
+    os.close(writing)
+    with open(reading, 'rb', buffering=0) as pipe:
+        printed = subprocess.run([program], stdin=pipe, stdout=subprocess.PIPE, timeout=SECONDS).stdout
+        return printed, pipe.read()
+
+
+def left_in_file(program, file):
+    """The same of a class file that begins at a place of another file."""
+    with tempfile.TemporaryFile(buffering=0) as whole:
+        whole.write(AFTER + file + AFTER)
+        whole.seek(len(AFTER))
+        printed = subprocess.run([program], stdin=whole, stdout=subprocess.PIPE, timeout=SECONDS).stdout
+        return printed, whole.read()
+
+
+# What a class file has, its bytes, and its report. A sheet that is cut short reads nothing of what follows it.
+CLASSES = [
+    ('two sheets', b'\2' + entry(7, SHEET) + entry(300, SHEET), b'class 1\n7 1 2 0 1 0\n300 1 2 0 1 0\n4 0 2 0\n'),
+    ('no sheets', b'\0', b'class 1\n0 0 0 0\n'),
+    ('an empty sheet', b'\1' + entry(7, b''), b'class 1\n7 1 1 1 0 0\n1 1 0 0\n'),
+    ('a sheet cut short', b'\1' + entry(7, SHEET[:-1]), b'class 1\n7 1 2 1 0 0\n2 1 0 0\n'),
+    ('a sheet of 32,768 bytes', b'\1' + entry(7, bytes(32768)), b'class 1\n7 1 1 1 0 0\n1 1 0 0\n'),
+]
+
+
+def tests(program):
+    """Each test: what it shows, what came, what must come."""
+    (few, least), (many, most) = streamed(program, 2), streamed(program, MANY)
+    print('resident: %d KB for 2 sheets, %d KB for %d' % (least, most, MANY))
+    yield 'two sheets in a pipe', few, b''.join(report(2))
+    yield '%d sheets in a pipe' % MANY, many, b''.join(report(MANY))
+    yield 'less than %d KB' % MOST_KB, most < MOST_KB, True
+    yield 'as much as for two sheets', most <= least + NOISE_KB, True
+    for name, file, wanted in CLASSES:
+        yield name + ' in a pipe', left_in_pipe(program, file), (wanted, AFTER)
+        yield name + ' in a file', left_in_file(program, file), (wanted, AFTER)
+
+
+def main():
+    if len(sys.argv) != 2:
+        print(__doc__)
+        return 2
+    passed, failed = 0, 0
+    for name, got, wanted in tests(os.path.abspath(sys.argv[1])):
+        passed, failed = passed + (got == wanted), failed + (got != wanted)
+        if got != wanted:
+            print('%s: got %.200r, not %.200r' % (name, got, wanted))
+    print('%d passed, %d failed' % (passed, failed))
+    return 1 if failed or not passed else 0
+
+
+if __name__ == '__main__':
+    sys.exit(main())
