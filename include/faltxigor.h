@@ -54,22 +54,24 @@ uint64_t faltxigor_run(const uint8_t *sheet, size_t sheet_bytes, uint64_t *memor
 uint64_t faltxigor_last_line(const uint64_t *memory, size_t words, uint8_t *lines, size_t line_bytes, size_t *used);
 
 /* Words that say where a class report stands. */
-#define FALTXIGOR_CLASS_WORDS 12
+#define FALTXIGOR_CLASS_WORDS 18
 
-/* A part of a class report (document 02, E1): its next lines, from the start of `lines` on, as long as 128 bytes are
- * free, the room of one line. The first 12 words of `state` say where the report stands, and then where the next part
- * goes on: 12 words that are 0 are its start, and where state[0] is 7 nothing is left. So clear them, call until
- * state[0] is 7, and take *used bytes away from `lines` after each call. Each call may be lent another memory: it
- * writes a fresh session there first, so that room for many lines saves time, and leaves the session of the part's
- * last sheet.
+/* A part of a class report (document 02, E1 and E2): its next lines, from the start of `lines` on, as long as 128 bytes are
+ * free, the room of one line. The first 18 words of `state` say where the report stands, and then where the next part
+ * goes on: 18 words that are 0 are its start, and where state[0] is 7 nothing is left. So clear them, call until
+ * state[0] is 7, and take *used bytes away from `lines` after each call. Each call is lent the same file, and may be lent
+ * another memory: it writes a fresh session there first, so that room for many lines saves time, and leaves the session
+ * of the part's last sheet. Of a learner's sheets only the one that counts is run.
  *
  * Any words may stand in `state`. They are what comes next (0 the head, 1 the number of sheets, 2 a learner, 3 a
- * turn, 4 a length, 5 a sheet, 6 the sums, any other nothing); the place in the file, where one past the end is the
- * end; value and weight of a number of which some bytes were read; the sheets left, with this one; its learner, turn
- * and length; and the sums so far: records, refused, starts, dropped. Where something is left, a call that is not
- * refused comes nearer to the end.
+ * turn, 4 a length, 5 a sheet, 6 the last line, 8 the line of the pending sheet, any other nothing); the place in the
+ * file, where one past the end is the end; value and weight of a number of which some bytes were read; the sheets left,
+ * with this one; its learner, turn and length; the number of a stop, or 0; the pending sheet, which counts for its
+ * learner unless a later one supersedes it: 0 if there is none, and its learner, turn, place in the file and length;
+ * and the sums so far: records, refused, starts, dropped. Where something is left, a call that is not refused comes
+ * nearer to the end.
  *
- * Returns the refusal: 0 done, and *used is the length of the lines; 1 there are under 12 words of `state`, under 128
+ * Returns the refusal: 0 done, and *used is the length of the lines; 1 there are under 18 words of `state`, under 128
  * bytes of `lines`, or the session's memory is too short, and then nothing is changed and *used is 0. */
 uint64_t faltxigor_class(const uint8_t *file, size_t file_bytes, uint64_t *state, size_t state_words, uint64_t *memory,
                          size_t words, uint8_t *lines, size_t line_bytes, size_t *used);

@@ -16,23 +16,19 @@ import tempfile
 ROOT = os.path.dirname(os.path.dirname(os.path.abspath(__file__)))
 CLASS = os.path.join(ROOT, 'class')
 EXAMPLE = """\
-learner  turn  records  refused  starts  dropped
-      3     1       15        3       2        0
-      3     2       13        0       2        0
-      7     1       21        2       2        1
-      7     2       19        0       2        0
-     11     1       21        2       4        0
-     11     2       12        1       1        0
-     15     1        6        3       1        0
-     15     2       15        3       2        0
-    all            122       14      16        1
+learner  sheets  turn  records  refused  starts  dropped
+      3       2     2       13        0       2        0
+      7       2     2       19        0       2        0
+     11       2     2       12        1       1        0
+     15       2     2       15        3       2        0
+    all       8             59        4       7        0
 """
 # Main is granted and started.
 GOOD = {'1-1.txt': b'1\n10 2\n11 2\n'}
 GOOD_TABLE = """\
-learner  turn  records  refused  starts  dropped
-      1     1        2        0       1        0
-    all              2        0       1        0
+learner  sheets  turn  records  refused  starts  dropped
+      1       1     1        2        0       1        0
+    all       1              2        0       1        0
 """
 UNNAMED = 'not named LEARNER-TURN.txt, .sheet or .bin, say 07-2.txt'
 LARGE = 'its name has a number above 4294967295'
@@ -65,10 +61,14 @@ LEFT_OUT = [
     ('sub-folders', {'09-1.txt': None, 'old': None}, [f'09-1.txt: {FOLDER}', f'old: {FOLDER}']),
     ('two reasons', {'a': b'', '09-1.txt': b'x'}, [f'09-1.txt: line 1 {WORD}', f'a: {UNNAMED}']),
 ]
-# In text order 10 comes before 2. A sheet of 32,768 bytes is taken (its first number, 0, gives 5); so is an empty one.
+# In text order 10 comes before 2, of learners and of turns: turn 10 counts. A sheet of 32,768 bytes is taken (its first number, 0,
+# gives 5); so is an empty one.
 ORDERED = {'10-1.txt': b'1', '2-10.txt': b'1', '002-9.txt': b'', '4294967295-0.bin': bytes(32768)}
-ORDERED_ROWS = [['2', '9', '1', '1', '0', '0'], ['2', '10', '0', '0', '0', '0'], ['10', '1', '0', '0', '0', '0'],
-                ['4294967295', '0', '1', '1', '0', '0'], ['all', '2', '2', '0', '0']]
+ORDERED_ROWS = [['2', '2', '10', '0', '0', '0', '0'], ['10', '1', '1', '0', '0', '0', '0'],
+                ['4294967295', '1', '0', '1', '1', '0', '0'], ['all', '4', '1', '1', '0', '0']]
+# Three turns: the highest counts, though it is the shortest and has a refusal; the others are not in the sums.
+TURNS = {'5-1.txt': GOOD['1-1.txt'], '5-3.txt': b'1\n10 3\n', '5-2.txt': GOOD['1-1.txt'], '6-0.txt': GOOD['1-1.txt']}
+TURNS_ROWS = [['5', '3', '3', '1', '1', '0', '0'], ['6', '1', '0', '2', '0', '1', '0'], ['all', '4', '3', '1', '1', '0']]
 # Three sheets: learner 2, turn 1, 1 byte; learner 128, turn 0, no byte; learner 300, turn 1, 130 bytes.
 CODED = {'300-1.bin': bytes(130), '2-1.txt': b'1 # a comment', '128-0.sheet': b''}
 CODED_FILE = bytes([3, 2, 1, 1, 1, 128, 1, 0, 0, 172, 2, 1, 130, 1]) + bytes(130)
@@ -138,10 +138,11 @@ def calls(place):
 
 def folders():
     """Folders made here."""
-    ordered = of_folder(ORDERED)
+    ordered, turns = of_folder(ORDERED), of_folder(TURNS)
     hidden = of_folder({**GOOD, '.1-2.txt': b'x', '.git': None})
     return [
         ('by learner and turn, as numbers', (ordered[0], rows(ordered[1]), ordered[2]), (0, ORDERED_ROWS, b'')),
+        ('the turn that counts', (turns[0], rows(turns[1]), turns[2]), (0, TURNS_ROWS, b'')),
         ('the class file', of_folder(CODED, '--file'), (0, CODED_FILE, b'')),
         ('hidden files', hidden, (0, GOOD_TABLE.encode(), b'')),
         ('an empty folder', no_sheet({}, 0), True),
@@ -153,11 +154,11 @@ def folders():
 def reports():
     """Reports that no folder gives."""
     table = runpy.run_path(CLASS)['table']
-    page, wrong = table(b'class 1\n1 1 2 0 1 0\nstop 22\n')
+    page, wrong = table(b'class 1\n1 1 2 0 1 0\nstop 22\n', {1: 1})
     return [
         ('a stop has the lines before it', page.decode(), ''.join(GOOD_TABLE.splitlines(keepends=True)[:2])),
         ('a stop is told', wrong, 'class_report stopped with 22: there are no sums'),
-        ('no report', table(b'class 1\n1 1 2 0 1\n2 0 1 0\n'), (b'', 'class_report printed no report')),
+        ('no report', table(b'class 1\n1 1 2 0 1\n2 0 1 0\n', {1: 1}), (b'', 'class_report printed no report')),
     ]
 
 

@@ -2,7 +2,8 @@
 """class_stream.py PROGRAM: a class program takes its input as a stream.
 
 A class of 200,000 sheets, made while it is read and never whole anywhere, is reported right, in under 8 MB of resident
-memory and in no more than a class of two takes. Of standard input no byte after the last sheet is read: each class is
+memory and in no more than a class of two takes: as many learners with a sheet each, and a fourth of them with four
+turns each, of which the third counts. Of standard input no byte after the last sheet is read: each class is
 followed by other bytes, which must be left in the pipe, and in a file that is read from a place on. (The lines are
 gathered before they are written: they need not come as the sheets come.) Prints `N passed, M failed`.
 """
@@ -27,32 +28,37 @@ AFTER = b'\1\2\3 bytes after the last sheet\n'
 SHEET = bytes([1, 10, 2, 11, 2])
 
 
-def entry(learner, sheet):
-    return shortest(learner) + b'\1' + shortest(len(sheet)) + sheet
+def entry(learner, sheet, turn=1):
+    return shortest(learner) + shortest(turn) + shortest(len(sheet)) + sheet
 
 
-def parts(count):
-    """A class file of so many short sheets, some at a time."""
-    yield shortest(count)
-    for first in range(0, count, 1000):
-        yield b''.join(entry(k, SHEET) for k in range(first, min(first + 1000, count)))
+def turned_in(learner, turns):
+    """A learner's sheets, of the turns told; all but the highest are a first number alone."""
+    return b''.join(entry(learner, SHEET if turn == max(turns) else SHEET[:1], turn) for turn in turns)
 
 
-def report(count):
+def parts(learners, turns):
+    """A class file of so many learners with these turns, some at a time."""
+    yield shortest(learners * len(turns))
+    for first in range(0, learners, 1000):
+        yield b''.join(turned_in(k, turns) for k in range(first, min(first + 1000, learners)))
+
+
+def report(learners, turns):
     """The class report of such a file."""
     yield b'class 1\n'
-    for first in range(0, count, 1000):
-        yield b''.join(b'%d 1 2 0 1 0\n' % k for k in range(first, min(first + 1000, count)))
-    yield b'%d 0 %d 0\n' % (2 * count, count)
+    for first in range(0, learners, 1000):
+        yield b''.join(b'%d %d 2 0 1 0\n' % (k, max(turns)) for k in range(first, min(first + 1000, learners)))
+    yield b'%d 0 %d 0\n' % (2 * learners, learners)
 
 
-def streamed(program, count):
+def streamed(program, learners, turns):
     """What the program prints of a class that is written into a pipe; and how much memory was resident, in KB, at most, when it
     waited for the last byte."""
     with tempfile.TemporaryFile() as printed:
         run = subprocess.Popen([program], stdin=subprocess.PIPE, stdout=printed)
         last = b''
-        for part in parts(count):
+        for part in parts(learners, turns):
             run.stdin.write(last + part[:-1])
             last = part[-1:]
         run.stdin.flush()
@@ -86,24 +92,29 @@ def left_in_file(program, file):
         return printed, whole.read()
 
 
-# What a class file has, its bytes, and its report. A sheet that is cut short reads nothing of what follows it.
+# What a class file has, its bytes, and its report. A sheet that is cut short reads nothing of what follows it, and neither does a stop.
 CLASSES = [
     ('two sheets', b'\2' + entry(7, SHEET) + entry(300, SHEET), b'class 1\n7 1 2 0 1 0\n300 1 2 0 1 0\n4 0 2 0\n'),
     ('no sheets', b'\0', b'class 1\n0 0 0 0\n'),
     ('an empty sheet', b'\1' + entry(7, b''), b'class 1\n7 1 1 1 0 0\n1 1 0 0\n'),
     ('a sheet cut short', b'\1' + entry(7, SHEET[:-1]), b'class 1\n7 1 2 1 0 0\n2 1 0 0\n'),
     ('a sheet of 32,768 bytes', b'\1' + entry(7, bytes(32768)), b'class 1\n7 1 1 1 0 0\n1 1 0 0\n'),
+    ('a later turn', b'\2' + entry(7, SHEET) + entry(7, b'', 2), b'class 1\n7 2 1 1 0 0\n1 1 0 0\n'),
+    ('an earlier turn', b'\2' + entry(7, SHEET, 2) + entry(7, b'\1'), b'class 1\n7 2 2 0 1 0\n2 0 1 0\n'),
+    ('a lower learner', b'\3' + entry(7, SHEET) + entry(6, SHEET), b'class 1\n7 1 2 0 1 0\nstop 23\n'),
 ]
 
 
 def tests(program):
     """Each test: what it shows, what came, what must come."""
-    (few, least), (many, most) = streamed(program, 2), streamed(program, MANY)
-    print('resident: %d KB for 2 sheets, %d KB for %d' % (least, most, MANY))
-    yield 'two sheets in a pipe', few, b''.join(report(2))
-    yield '%d sheets in a pipe' % MANY, many, b''.join(report(MANY))
-    yield 'less than %d KB' % MOST_KB, most < MOST_KB, True
-    yield 'as much as for two sheets', most <= least + NOISE_KB, True
+    few, least = streamed(program, 2, [1])
+    yield 'two sheets in a pipe', few, b''.join(report(2, [1]))
+    for learners, turns in [(MANY, [1]), (MANY // 4, [1, 0, 3, 2])]:
+        many, most = streamed(program, learners, turns)
+        print('resident: %d KB for 2 sheets, %d KB for %d' % (least, most, MANY))
+        yield '%d learners with turns %s in a pipe' % (learners, turns), many, b''.join(report(learners, turns))
+        yield 'less than %d KB' % MOST_KB, most < MOST_KB, True
+        yield 'as much as for two sheets', most <= least + NOISE_KB, True
     for name, file, wanted in CLASSES:
         yield name + ' in a pipe', left_in_pipe(program, file), (wanted, AFTER)
         yield name + ' in a file', left_in_file(program, file), (wanted, AFTER)

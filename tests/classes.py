@@ -11,7 +11,7 @@ import sys
 
 from by_hand import BadCase, main, number, shortest
 
-STOPS = ("3", "4", "22")
+STOPS = ("3", "4", "22", "23")
 
 
 def file_bytes(words):
@@ -31,29 +31,28 @@ def file_bytes(words):
     return bytes(out)
 
 
-def report_lines(words):
-    """The report's lines that one line of the case's lower half stands for, each as a tuple of words."""
-    times = 1
-    if len(words) > 2 and words[1] == "*":
-        times, words = number(words[0]), words[2:]
+def report_line(words):
+    """One line of the case's lower half, as a tuple of words."""
     if words[0] not in ("class", "stop"):
         for word in words:
             number(word)
-    return times * [tuple(words)]
+    return tuple(words)
 
 
 def check_report(lines):
-    """`class 1`, six numbers a sheet, and last a stop or the sums, which add up."""
+    """`class 1`, six numbers a learner, and last a stop or the sums, which add up."""
     if len(lines) < 2 or lines[0] != ("class", "1"):
         raise BadCase("the report begins with `class 1` and has a last line")
     sheets = [[int(word) for word in line] for line in lines[1:-1] if line[0] not in ("class", "stop")]
     if len(sheets) != len(lines) - 2 or any(len(sheet) != 6 for sheet in sheets):
         raise BadCase("each sheet has a line of six numbers")
+    if any(one[0] >= after[0] for one, after in zip(sheets, sheets[1:])):
+        raise BadCase("a learner has one line, and learners rise")
     if any(refused + starts > records for _, _, records, refused, starts, _ in sheets):
         raise BadCase("more refused records and starts than records")
     if lines[-1][0] == "stop":
         if lines[-1][1:] not in [(stop,) for stop in STOPS]:
-            raise BadCase("a stop has one of the numbers 3, 4, 22")
+            raise BadCase(f"a stop has one of the numbers {', '.join(STOPS)}")
     elif lines[-1] != tuple(str(sum(sheet[place] for sheet in sheets)) for place in range(2, 6)):
         raise BadCase("the last line is not the sums of the lines before it")
 
@@ -72,7 +71,7 @@ def read_case(path):
             elif words and half == 0:
                 file += file_bytes(words)
             elif words:
-                lines += report_lines(words)
+                lines.append(report_line(words))
         except BadCase as bad:
             raise BadCase(f"line {place}: {bad}") from None
     if half != 1:

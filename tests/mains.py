@@ -15,6 +15,8 @@ import subprocess
 import sys
 import tempfile
 
+from by_hand import shortest
+
 ROOT = os.path.dirname(os.path.dirname(os.path.abspath(__file__)))
 
 # Link 1 was never made: deliveries of it are refused with 9. Their lines take more than one part of 16,384 bytes, and the last
@@ -22,15 +24,18 @@ ROOT = os.path.dirname(os.path.dirname(os.path.abspath(__file__)))
 DELIVERIES = 16384
 REFUSED = b''.join(b'%d 9 0\n' % (k + 1) for k in range(DELIVERIES - 1)) + b'%d 3 0\n1 0 0\n' % DELIVERIES
 
-# A class of empty sheets, whose lines take more than one part of 16,384 bytes; and one of a longest sheet, whose first number is 0.
+# A class of learners with an empty sheet each, whose lines take more than one part of 16,384 bytes; and one of longest sheets: of learner
+# 7 the second, whose first number is 0, is superseded by the first, whose records deliver link 1; learner 8 hands in an empty one.
 EMPTY = 1500
-CLASS = b'\xdc\x0b' + bytes([1, 1, 0] * EMPTY)
-REPORT = b'class 1\n' + b'1 1 1 1 0 0\n' * EMPTY + b'%d %d 0 0\n' % (EMPTY, EMPTY)
-LONGEST = bytes([1, 7, 1, 128, 128, 2] + [0] * 32768)
+CLASS = shortest(EMPTY) + b''.join(shortest(k) + b'\1\0' for k in range(EMPTY))
+REPORT = b'class 1\n' + b''.join(b'%d 1 1 1 0 0\n' % k for k in range(EMPTY)) + b'%d %d 0 0\n' % (EMPTY, EMPTY)
+LONG = shortest(32768)
+LONGEST = b'\3\7\2' + LONG + bytes([1] + [9, 1] * 16383 + [9]) + b'\7\1' + LONG + bytes(32768) + b'\10\1\0'
+LONGEST_REPORT = b'class 1\n7 2 16384 16384 0 0\n8 1 1 1 0 0\n16385 16385 0 0\n'
 
 # a program: what it reads, and what it must print
 TRIES = {
-    'class_report': [(b'', b'class 1\nstop 3\n'), (CLASS, REPORT), (LONGEST, b'class 1\n7 1 1 1 0 0\n1 1 0 0\n')],
+    'class_report': [(b'', b'class 1\nstop 3\n'), (CLASS, REPORT), (LONGEST, LONGEST_REPORT)],
     'ocr_sheet': [(b'', b'0 3 0\n1 0 0\n'), (bytes([2]), b'0 5 0\n1 0 0\n'), (bytes([1] + [9, 1] * DELIVERIES), REFUSED)],
     'text_to_sheet': [(b'1 # a sheet\n10 2\n', bytes([1, 10, 2])), (b'1\n10 two\n', b'line 2\n')],
     'sheet_to_text': [(bytes([1, 10, 2]), b'1\n10 2  # grant\n')],
@@ -47,7 +52,7 @@ EDITS = [
     ('sheet_to_text', False, 'io::write_all(1, &out[..used]);', 'io::write_all(2, &out[..used]);'),
     ('class_report', True, 'io::write_all(1, &lines[..filled]);', 'io::write_all(0x1, &lines[..filled]);'),
     ('class_report', False, 'io::write_all(1, &lines[..filled]);', 'io::write_all(2, &lines[..filled]);'),
-    ('class_report', False, 'read_asked(n, &mut bytes)', 'read_asked(n % 32768, &mut bytes)'),
+    ('class_report', False, 'io::read_full(0, &mut room[place..end])', 'io::read_full(3, &mut room[place..end])'),
     ('class_report', False, 'let mut turns = u64::MAX;', 'let mut turns = 4096u64;'),
 ]
 

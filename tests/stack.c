@@ -23,7 +23,7 @@ static uint8_t deep[DEEP];
 static size_t deep_length;
 static unsigned passed;
 
-/* A class of two sheets, the one given and the one that makes tasks as deep as there are handles, part by part. */
+/* A class of two learners, with the sheet given and the one that makes tasks as deep as there are handles, part by part. */
 static void report(const Work *work, const uint8_t *sheet, size_t length) {
     static uint8_t file[DEEP + 64];
     uint64_t state[FALTXIGOR_CLASS_WORDS] = {0};
@@ -34,8 +34,8 @@ static void report(const Work *work, const uint8_t *sheet, size_t length) {
     file[at++] = (uint8_t)length;
     memcpy(file + at, sheet, length);
     at += length;
-    file[at++] = 1;
     file[at++] = 2;
+    file[at++] = 1;
     file[at++] = (uint8_t)(deep_length | 128);
     file[at++] = (uint8_t)(deep_length >> 7);
     memcpy(file + at, deep, deep_length);

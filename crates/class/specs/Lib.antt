@@ -1,11 +1,9 @@
-pub mod Report
-pub mod Standing
 pub mod Steps
+pub mod Standing
+pub mod Begun
 pub mod StepLaws
-pub mod Sums
 pub mod Stepped
 pub mod LineLengths
 pub mod Chains
 pub mod Parts
-pub mod Edges
-pub mod After
+pub mod Halves

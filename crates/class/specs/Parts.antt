@@ -1,48 +1,44 @@
 -- A part of a report: what lent line memory holds of it, and where the next part goes on.
 use Prim.Native.Nat.{ℕ, _+_, _-_, _≤_, _<_}
-use mathlib.Core.List.{List, [], _++_, append-nil, append-assoc}
-use mathlib.Core.Path.{_≡_, refl, ap, sym, subst, _∙_}
+use mathlib.Core.List.{List, [], _++_}
+use mathlib.Core.Path.{_≡_, refl, ap, sym, _∙_}
 use mathlib.Core.Logic.{_⊎_}
 use native.Mathlib.Omega.{arith}
 use lib.ListN.{length, take, drop, length-take, length-drop}
-use lib.Seq.{take-all, length-take-le}
+use lib.Seq.{length-take-le}
 use borrow.Rule.Slice.PartMut.{putMid, midOf}
 use borrow.Author.Tests.{le-leb}
 use Rattle.number.specs.Splice.{splice-to}
 use Rattle.lines.specs.LineLaws.{splice-tail}
 use Rattle.session.specs.TableLaws.{wrote-none, wrote-then}
-use Rattle.session.specs.Table.{Session, Wrote, read, words}
+use Rattle.session.specs.Table.{Wrote, read, words}
 use Rattle.session.specs.Fresh.{freshSession, Leaves}
 use Rattle.rules.specs.Formula.{Formula, choose, holds, Formula._≼_, Formula._and_}
-use Rattle.rules.specs.FormulaLaws.{Case, decide, passes, fails, choose-yes, choose-no, Case.it-does, Case.it-does-not}
+use Rattle.rules.specs.FormulaLaws.{passes, fails}
 use Rattle.rules.specs.Sound.{kept}
 use Rattle.laws.specs.Fresh.{fresh-kept}
 use Rattle.text.specs.Put.{Put, put-none, put-then}
+use Rattle.turns.specs.Places.{least, take-least}
 use Rattle.class.specs.declared.Part.{Part}
 use Rattle.class.specs.declared.Step.{Step}
 use Rattle.class.specs.declared.Report.{Report}
 use Rattle.class.specs.declared.Stage.the-variants.{Nothing}
-use Rattle.class.specs.Report.{report}
 use Rattle.class.specs.Standing.{reportFrom}
-use Rattle.class.specs.Sums.{begun-report}
-use Rattle.class.specs.Steps.{begun, asks, does, leaves, handed}
+use Rattle.class.specs.Steps.{asks, handed}
 use Rattle.class.specs.Stepped.{Took}
-use Rattle.class.specs.Chains.{State, state, said, onward, Went, still, further, went-prints, stepsLeft, steps-fewer}
+use Rattle.class.specs.Chains.{state, stepOf, said, onward, Went, still, further, went-prints, stepsLeft, steps-fewer}
 
 -- "Check 1": a line of a report takes at most this many bytes
 abbrev pub reportRoom : ℕ
 reportRoom = 128
 
-abbrev pub least : ℕ → ℕ → ℕ
-least a b = choose (a ≼ b) a b
-
 -- A step on a file in memory: its line stands behind the lines already there.
 pub record SteppedOn (file : List ℕ) (at : ℕ) (r : Report) (before after lines lines′ : List ℕ) (used : ℕ) (p : Part) : Type 0 where
   pub place : p .place ≡ at + length (handed file at r)
-  pub report : p .report ≡ does r (handed file at r) .report
-  pub line : Put lines used (does r (handed file at r) .text) (p .used) lines′
+  pub report : p .report ≡ stepOf file at r (read before) .report
+  pub line : Put lines used (stepOf file at r (read before) .text) (p .used) lines′
   pub short : p .used ≤ used + reportRoom
-  pub session : Wrote before after (leaves r (handed file at r) (read before))
+  pub session : Wrote before after (stepOf file at r (read before) .session)
   pub keeps : holds (kept (read after))
 
 -- A part: steps from where the report stood, as long as there was room for a line. The lines at the start of the memory are what
@@ -57,22 +53,14 @@ pub record Reported (file : List ℕ) (at : ℕ) (r : Report) (before after line
   pub session : Wrote before after (read after)
   pub ends : (p .report .stage ≡ Nothing) ⊎ (length lines′ < p .used + reportRoom)
 
--- as many bytes as are asked for, or all that are left
-take-least : (n : ℕ) (l : List ℕ) → take (least n (length l)) l ≡ take n l
-take-least n l = go (decide (n ≼ length l))
-  where
-    go : Case (n ≼ length l) → take (least n (length l)) l ≡ take n l
-    go (it-does h) = ap (λ (k : ℕ). take k l) (choose-yes (n ≼ length l) n (length l) h)
-    go (it-does-not h) =
-        ap (λ (k : ℕ). take k l) (choose-no (n ≼ length l) n (length l) h) ∙ take-all (length l) l (omega arith) ∙ sym (take-all n l (omega arith))
-
 -- what the code hands to a step, and where it ends
 pub handed-bytes : (file : List ℕ) (at : ℕ) (r : Report) (n : ℕ) → n ≡ least (asks r) (length file - at) → n ≤ length file - at → at ≤ length file
     → (take (at + n - at) (drop at file) ≡ handed file at r) × (at + n ≡ at + length (handed file at r))
 handed-bytes file at r n e few h =
     let d : length (drop at file) ≡ length file - at = length-drop at file in
     let k : at + n - at ≡ n = omega arith in
-    let t : take n (drop at file) ≡ handed file at r = ap (λ (x : ℕ). take x (drop at file)) (e ∙ ap (least (asks r)) (sym d)) ∙ take-least (asks r) (drop at file) in
+    let t : take n (drop at file) ≡ handed file at r =
+    ap (λ (x : ℕ). take x (drop at file)) (e ∙ ap (least (asks r)) (sym d)) ∙ take-least (asks r) (drop at file) in
     (ap (λ (x : ℕ). take x (drop at file)) k ∙ t, ap (λ (x : ℕ). at + x) (sym (length-take-le n (drop at file) (omega arith)) ∙ ap length t))
 
 -- a step of the code, on the free tail of the line memory
@@ -81,27 +69,26 @@ pub stepped-on : (file : List ℕ) (at : ℕ) (r : Report) (bytes before after l
     → p ≡ record { refused = 0; used = used + x .used; place = end; report = x .report }
     → bytes ≡ handed file at r
     → end ≡ at + length (handed file at r)
-    → Took r bytes before after (midOf used (length lines - used) lines) tail x
+    → Took r file at bytes before after (midOf used (length lines - used) lines) tail x
     → SteppedOn file at r before after lines (putMid used (length lines - used) lines tail) used p
 stepped-on file at r bytes before after lines tail used end x p h is same place t =
-    let u = rw same at t in
-    let d = does r (handed file at r) in
+    let u = (rw same at t) .moved in
     record {
       place = ap (λ (q : Part). q .place) is ∙ place;
-      report = ap (λ (q : Part). q .report) is ∙ u .moved .report;
+      report = ap (λ (q : Part). q .report) is ∙ u .told .report;
       line = record {
-        place = ap (λ (q : Part). q .used) is ∙ omega (arith, u .moved .line .place);
-        written = ap (putMid used (length lines - used) lines) (u .moved .line .written) ∙ splice-tail lines used (d .text) h;
+        place = ap (λ (q : Part). q .used) is ∙ omega (arith, u .told .line .place);
+        written = ap (putMid used (length lines - used) lines) (u .told .line .written) ∙ splice-tail lines used (stepOf file at r (read before) .text) h;
       };
-      short = omega (arith, ap (λ (q : Part). q .used) is, u .moved .short);
+      short = omega (arith, ap (λ (q : Part). q .used) is, u .told .short);
       session = u .session;
-      keeps = u .keeps;
+      keeps = t .keeps;
     }
 
 -- where something is left, a step leaves less
 pub stepped-fewer : (file : List ℕ) (at : ℕ) (r : Report) (before after lines lines′ : List ℕ) (used : ℕ) (p : Part)
     → SteppedOn file at r before after lines lines′ used p → (r .stage ≡ Nothing → ⊥) → stepsLeft file (p .place) (p .report) < stepsLeft file at r
-stepped-fewer file at r before after lines lines′ used p x n = rw (x .place, x .report) (steps-fewer file at r n)
+stepped-fewer file at r before after lines lines′ used p x n = rw (x .place, x .report) (steps-fewer file at r (read before) n)
 
 -- Check 1 is met, or nothing changes.
 abbrev pub lends : List ℕ → List ℕ → Formula
@@ -132,7 +119,9 @@ pub record Going (file : List ℕ) (at : ℕ) (r : Report) (before now-memory li
   pub fits : used ≤ length now-lines
   pub long : length now-lines ≡ length lines
 
-pub going-first : (file : List ℕ) (at : ℕ) (r : Report) (memory lines : List ℕ) → read memory ≡ freshSession → at ≤ length file → Going file at r memory memory lines lines at r 0
+-- no step as yet
+pub going-first : (file : List ℕ) (at : ℕ) (r : Report) (memory lines : List ℕ) → read memory ≡ freshSession → at ≤ length file
+    → Going file at r memory memory lines lines at r 0
 going-first file at r memory lines e h = record {
   text = [];
   went = rw e still;
@@ -155,7 +144,7 @@ module _ (file : List ℕ) (at : ℕ) (r : Report) (before memory lines now-line
         let w : Went file (state at r freshSession) (g .text ++ said file (state place q (read memory))) (onward file (state place q (read memory))) =
         further (g .text) _ (g .went) in
         record {
-          text = g .text ++ does q (handed file place q) .text;
+          text = g .text ++ said file (state place q (read memory));
           went = rw (x .place, x .report, x .session .reading) w;
           line = put-then (omega (arith, g .line .place, g .fits, g .long)) (g .line) (x .line);
           session = record {
@@ -184,12 +173,15 @@ module _ (file : List ℕ) (at : ℕ) (r : Report) (before memory lines now-line
     }
 
 module _ (file : List ℕ) (place : ℕ) (r : Report) (before lines : List ℕ) where
-  pub parted-not : (holds (lends before lines) → ⊥) → Parted file place r before before lines lines (record { refused = 1; used = 0; place = place; report = r })
+  -- memory that is not lent stays as it was
+  pub parted-not : (holds (lends before lines) → ⊥)
+      → Parted file place r before before lines lines (record { refused = 1; used = 0; place = place; report = r })
   unfolding Parted
   parted-not n = rw (fails (lends before lines) n) (refl, refl, refl)
 
   -- memory that holds a fresh session now
-  pub parted-fresh : (fresh after lines′ : List ℕ) (at : ℕ) (p : Part) → holds (lends before lines) → Leaves before fresh freshSession → at ≡ least place (length file)
+  pub parted-fresh : (fresh after lines′ : List ℕ) (at : ℕ) (p : Part)
+      → holds (lends before lines) → Leaves before fresh freshSession → at ≡ least place (length file)
       → Reported file at r fresh after lines lines′ p → Parted file place r before after lines lines′ p
   unfolding Parted
   parted-fresh fresh after lines′ at p h w e x =

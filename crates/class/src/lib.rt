@@ -1,9 +1,11 @@
-// The class report: a line for each sheet of a class file, and the sums. It goes step by step: a report asks for some bytes of the
-// file and is handed them, so that a file of any length is reported from memory for one sheet.
+// The class report: a line for each learner's sheet that counts, and the sums. It goes step by step: a report asks for some bytes of
+// the file and is handed them, so that a file of any length is reported from memory for two sheets.
+mod halves;
 mod parts;
 mod printing;
 mod steps;
 
+pub use halves::free_half;
 use number::Reader;
 pub use parts::report_part;
 use sheet_counts::Tally;
@@ -18,8 +20,11 @@ pub const ROOM: usize = 128;
 // The longest sheet.
 pub const MOST_BYTES: usize = 32768;
 
-// What a report prints or reads next: its head, the number of sheets, an entry's learner, turn and length, its sheet, the sums; or
-// nothing.
+// The memory for two sheets.
+pub const TWO_SHEETS: usize = 65536;
+
+// What a report prints or reads next: its head, the number of sheets, an entry's learner, turn and length, its sheet, the line of
+// the pending sheet, the last line; or nothing.
 pub enum Stage {
     Head,
     Count,
@@ -27,12 +32,27 @@ pub enum Stage {
     Turn,
     Length,
     Sheet,
-    Sums,
+    Line,
+    Last,
     Nothing,
 }
 
+// A sheet that was turned in: whose it is, and where its bytes lie.
+pub struct Turned {
+    pub learner: u64,
+    pub turn: u64,
+    pub place: usize,
+    pub length: u64,
+}
+
+// Whose sheet is pending: it counts for its learner unless a later entry supersedes it.
+pub enum Pending {
+    Nobody,
+    Somebody(Turned),
+}
+
 // Where a report stands: what comes next, the number that is being read, how many entries are left with this one, what was read
-// of this one, and the tally of those before.
+// of this one, the number of a stop or 0, the pending sheet, and the tally of those printed.
 pub struct Report {
     pub stage: Stage,
     pub number: Reader,
@@ -40,6 +60,8 @@ pub struct Report {
     pub learner: u64,
     pub turn: u64,
     pub length: u64,
+    pub stop: u64,
+    pub pending: Pending,
     pub tally: Tally,
 }
 

@@ -11,17 +11,7 @@ ghost use Rattle.session.specs.Table.{read, words};
 ghost use Rattle.session.specs.Fresh.{freshSession};
 ghost use Rattle.rules.specs.Formula.{holds, test};
 ghost use Rattle.rules.specs.Sound.{kept};
-ghost use Rattle.class.specs.Parts.{least, lends, SteppedOn, Reported, Parted};
-
-fn least_of(a: usize, b: usize) -> usize
-    ensures told { λ r. ⌜ r ≡ least a b ⌝ }
-    ensures most { λ r. ⌜ r ≤ b ⌝ }
-{
-    if a <= b {
-        return a;
-    }
-    b
-}
+ghost use Rattle.class.specs.Parts.{lends, SteppedOn, Reported, Parted};
 
 // A step on a file in memory, with its line behind the lines already there.
 fn step_on(
@@ -38,9 +28,9 @@ fn step_on(
         SteppedOn (now (file .entry)) place report (now (memory .entry)) (now (memory .exit)) (now (lines .entry)) (now (lines .exit)) used r
         ⌝ }
 {
-    let end = place + least_of(steps::asks(report), file.len() - place);
+    let end = place + turns::least_of(steps::asks(report), file.len() - place);
     let tail = &mut lines[used..];
-    let step = steps::take(report, &file[place..end], memory, tail);
+    let step = steps::take(report, file, place, end, memory, tail);
     let next = step.report;
     Part {
         refused: 0,
@@ -124,5 +114,11 @@ pub fn report_part(
         };
     }
     session::write_fresh(memory);
-    report_from(file, least_of(place, file.len()), report, memory, lines)
+    report_from(
+        file,
+        turns::least_of(place, file.len()),
+        report,
+        memory,
+        lines,
+    )
 }

@@ -7,7 +7,7 @@ ghost use Prim.Native.Nat.{_+_, _≤_};
 ghost use lib.ListN.{length};
 ghost use Rattle.lines.specs.Line.{marked};
 ghost use Rattle.text.specs.Put.{Put};
-ghost use Rattle.class.specs.Report.{head, countsLine, entryLine, stopLine};
+ghost use Rattle.class_rules.specs.Report.{head, countsLine, entryLine, stopLine, lastLine};
 
 // Writes a number and a mark behind it: at most twenty digits.
 fn write_number(v: u64, mark: u8, out: &mut [u8], at: usize) -> usize
@@ -51,11 +51,23 @@ pub fn write_entry(learner: u64, turn: u64, t: Tally, out: &mut [u8]) -> usize
 }
 
 // Writes the line of a stop.
-pub fn write_stop(n: u64, out: &mut [u8]) -> usize
+fn write_stop(n: u64, out: &mut [u8]) -> usize
     requires { ⌜ 128 ≤ length (now out) ⌝ }
     ensures put { λ r. ⌜ Put (now (out .entry)) 0 (stopLine n) r (now (out .exit)) ⌝ }
     ensures most { λ r. ⌜ r ≤ 128 ⌝ }
 {
     let number = write_bytes(b"stop ", out, 0);
     write_number(n, NEWLINE, out, number)
+}
+
+// Writes the last line: the sums, or a stop in their place.
+pub fn write_last(t: Tally, stop: u64, out: &mut [u8]) -> usize
+    requires { ⌜ 128 ≤ length (now out) ⌝ }
+    ensures put { λ r. ⌜ Put (now (out .entry)) 0 (lastLine t stop) r (now (out .exit)) ⌝ }
+    ensures most { λ r. ⌜ r ≤ 128 ⌝ }
+{
+    if stop == 0 {
+        return write_counts(t, out, 0);
+    }
+    write_stop(stop, out)
 }

@@ -1,4 +1,4 @@
-// The class report program: reports the class file on standard input, sheet by sheet.
+// The class report program: reports the class file on standard input, in memory for two sheets.
 use class::Report;
 use class::Stage;
 use class::Step;
@@ -7,33 +7,48 @@ ghost use mathlib.Core.Path.{_≡_};
 ghost use lib.ListN.{length};
 ghost use Rattle.sheet.specs.Printing.{Ready};
 ghost use Rattle.text.specs.Put.{Put};
-ghost use Rattle.class.specs.Steps.{does};
+ghost use Rattle.class.specs.Halves.{InHalf, freeHalf};
+ghost use Rattle.class_report.specs.Reads.{Given, stepOn};
 
 // How many bytes of lines are gathered, at most, before they are written.
 const PART: usize = 16384;
 
-// Reads no byte past those that are asked for: what follows the last sheet is left in standard input.
-fn read_asked(n: usize, bytes: &mut [u8]) -> usize
-    requires { ⌜ n ≤ length (now bytes) ⌝ }
-    ensures { λ r. ⌜ r ≤ length (now (bytes .exit)) ⌝ }
+// Reads what a report asks for into the half of the memory in which no pending sheet lies, which stays as it is; the place behind what
+// was read. No byte past those that are asked for is read: what follows the last sheet is left in standard input.
+fn read_asked(report: Report, place: usize, room: &mut [u8]) -> usize
+    requires { ⌜ (length (now room) ≡ 65536) × InHalf (report .pending) × (place ≡ freeHalf (report .pending)) ⌝ }
+    ensures { λ r. ⌜ Given (report .pending) place (now (room .entry)) (now (room .exit)) r ⌝ }
 {
+    let n = class::asks(report);
     if n == 0 {
-        return 0;
+        return place;
     }
-    io::read_full(0, &mut bytes[..n])
+    let end = place + n;
+    place + io::read_full(0, &mut room[place..end])
 }
 
 // A step, its line put behind those that are gathered already.
-fn gather(report: Report, bytes: &[u8], memory: &mut [u64], lines: &mut [u8], filled: usize) -> Step
+fn gather(
+    report: Report,
+    room: &[u8],
+    place: usize,
+    end: usize,
+    memory: &mut [u64],
+    lines: &mut [u8],
+    filled: usize,
+) -> Step
     requires { ⌜ Ready (now memory) (now lines) × (length (now lines) ≡ 16384) × (filled + 128 ≤ 16384) ⌝ }
-    ensures next { λ r. ⌜ r .report ≡ does report (now (bytes .entry)) .report ⌝ }
+    requires { ⌜ (place ≤ end) × (end ≤ length (now room)) ⌝ }
+    ensures next { λ r. ⌜
+        r .report ≡ stepOn (now (room .entry)) place end report (now (memory .entry)) .report
+        ⌝ }
     ensures line { λ r. ⌜
-        Put (now (lines .entry)) filled (does report (now (bytes .entry)) .text) (r .used) (now (lines .exit))
+        Put (now (lines .entry)) filled (stepOn (now (room .entry)) place end report (now (memory .entry)) .text) (r .used) (now (lines .exit))
         ⌝ }
     ensures ready { λ r. ⌜ Ready (now (memory .exit)) (now (lines .exit)) ⌝ }
     ensures inside { λ r. ⌜ r .used ≤ length (now (lines .exit)) ⌝ }
 {
-    let step = class::take(report, bytes, memory, &mut lines[filled..]);
+    let step = class::take(report, room, place, end, memory, &mut lines[filled..]);
     let next = step.report;
     Step {
         report: next,
@@ -56,16 +71,16 @@ fn write_full(lines: &[u8], used: usize) -> usize
 fn main() {
     let mut memory = [0u64; session::names::WORDS];
     session::write_fresh(&mut memory);
-    let mut bytes = [0u8; class::MOST_BYTES];
+    let mut room = [0u8; class::TWO_SHEETS];
     let mut lines = [0u8; PART];
     let mut filled = 0;
     let mut report = class::begin();
     // a proved loop has to end, and nothing says that the input does: so many turns no run uses up
     let mut turns = u64::MAX;
     while 0 < turns {
-        let n = class::asks(report);
-        let got = read_asked(n, &mut bytes);
-        let step = gather(report, &bytes[..got], &mut memory, &mut lines, filled);
+        let place = class::free_half(report);
+        let end = read_asked(report, place, &mut room);
+        let step = gather(report, &room, place, end, &mut memory, &mut lines, filled);
         filled = step.used;
         report = step.report;
         let stage = report.stage;

@@ -6,14 +6,11 @@ ghost use Rattle.rules.specs.Answer.{refusedOf, madeOf};
 ghost use Rattle.sound.specs.Whole.{soundMemory};
 ghost use Rattle.sheet.specs.Whole.{Ran};
 ghost use Rattle.sheet.specs.Closing.{Closes};
+ghost use Rattle.class_words.specs.Words.{Reports};
 ghost use Rattle.library.specs.Called.{Called, operation};
 ghost use Rattle.library.specs.Sheets.{endedBy, closedBy};
 use rules::Answer;
 use rules::Operation;
-
-mod classes;
-
-pub use classes::faltxigor_class;
 
 // Writes a fresh session: the refusal, 0 if done; 1 where the memory is too short, which then stays as it was.
 #[no_mangle]
@@ -106,4 +103,22 @@ pub extern "C" fn faltxigor_last_line(memory: &[u64], lines: &mut [u8], used: &m
     let closed = sheet::put_last_line(memory, lines, *used);
     *used = closed.used;
     closed.refused
+}
+
+// A part of a class report: the refusal, 0 if done. `state` says where the report stands, eighteen words that are 0 before the
+// first part, and where the next part goes on; its first word is 7 when nothing is left. `used` becomes the length of the part's lines.
+#[no_mangle]
+pub extern "C" fn faltxigor_class(
+    file: &[u8],
+    state: &mut [u64],
+    memory: &mut [u64],
+    lines: &mut [u8],
+    used: &mut usize,
+) -> u64
+    ensures { λ r. ⌜
+        Reports (now (file .entry)) (now (state .entry)) (now (state .exit)) (now (memory .entry)) (now (memory .exit))
+        (now (lines .entry)) (now (lines .exit)) (now (used .exit)) r
+        ⌝ }
+{
+    class_words::report_on(file, state, memory, lines, used)
 }

@@ -2,7 +2,7 @@
 //! memory is lent; from any other words it answers, and always the same.
 
 use compare::layout::WORDS;
-use compare::reports::{class_of, CLASS_WORDS, NOTHING};
+use compare::reports::{class_of, turns_of, CLASS_WORDS, NOTHING};
 use compare::words::to_words;
 use compare::Memory;
 use second::classes::Classes;
@@ -15,6 +15,9 @@ const SIZES: [usize; 4] = [128, 129, 200, 16_384];
 
 /// Words past those that are used.
 const PAST: usize = 3;
+
+/// The highest code of what comes next: the line of the pending sheet.
+const LINE: u64 = 8;
 
 fn noise(random: &mut Random, count: usize) -> Vec<u64> {
     (0..count).map(|_| random.draw()).collect()
@@ -31,7 +34,7 @@ fn checked_part(memory: &mut Memory, file: &[u8], state: &mut [u64], lines: &mut
     let (refused, used) = memory.class(file, state, lines);
     assert_eq!(refused, 0);
     assert!(used <= lines.len(), "{used} bytes in {}", lines.len());
-    assert!(state[0] <= NOTHING && state[1] <= file.len() as u64, "{state:?}");
+    assert!(state[0] <= LINE && state[1] <= file.len() as u64, "{state:?}");
     assert!(state[0] == NOTHING || used + 128 > lines.len(), "a part ended with room for a line");
     assert!(memory.words()[WORDS..] == past, "memory past the layout was changed");
     assert!(state[CLASS_WORDS..] == state_past, "words past the state were changed");
@@ -39,7 +42,7 @@ fn checked_part(memory: &mut Memory, file: &[u8], state: &mut [u64], lines: &mut
     lines[..used].to_vec()
 }
 
-/// All parts from where the words say; of a file of n bytes there are at most 4 n + 4.
+/// All parts from where the words say; of a file of n bytes there are at most 5 n + 5.
 fn checked_parts(
     file: &[u8],
     state: &mut [u64],
@@ -53,7 +56,7 @@ fn checked_parts(
         let mut lines = noise_bytes(random, lend());
         report.extend(checked_part(memory, file, state, &mut lines));
         calls += 1;
-        assert!(calls <= 4 * file.len() + 4, "no end");
+        assert!(calls <= 5 * file.len() + 5, "no end");
     }
     report
 }
@@ -115,11 +118,27 @@ fn the_session_that_is_left() {
     }
 }
 
+/// Of a learner's turns only the one that counts is run: the session left is its, though another came last.
+#[test]
+fn the_session_of_the_turn_that_counts() {
+    let mut random = Random::new(26);
+    for highest in 0..6 {
+        let sheets: Vec<Vec<u8>> = (0..6).map(|index| random_sheet(26, 6 * highest + index)).collect();
+        let turns: Vec<u64> = (0..6).map(|index| if index == highest { 9 } else { random.below(9) }).collect();
+        let file = turns_of(&[turns.iter().copied().zip(sheets.iter().cloned()).collect()]);
+        let mut session = Session::fresh();
+        run_over(&mut session, &sheets[highest as usize]);
+        let mut memory = Memory::new(noise(&mut random, WORDS + PAST));
+        checked_part(&mut memory, &file, &mut cleared(&mut random), &mut [0; 4_096]);
+        assert!(memory.words()[..WORDS] == to_words(&session), "turns {turns:?}");
+    }
+}
+
 /// Words of any kind in the state: mostly a stage, and places and numbers of all widths.
 fn any_state(random: &mut Random, file: &[u8]) -> Vec<u64> {
     let mut state: Vec<u64> = (0..CLASS_WORDS + PAST).map(|_| random.draw() >> random.below(65).min(63)).collect();
     if random.percent(90) {
-        state[0] = random.below(9);
+        state[0] = random.below(10);
     }
     if random.percent(80) {
         state[1] = random.below(file.len() as u64 + 2);
@@ -140,12 +159,12 @@ fn from_any_words() {
     let mut random = Random::new(24);
     let mut memories = [0, 1].map(|_| Memory::new(noise(&mut random, WORDS + PAST)));
     let classes = Classes::new(24);
-    let (mut lines_of, mut stages) = (0, [0; 9]);
+    let (mut lines_of, mut stages) = (0, [0; 10]);
     for index in 0..600 {
         let file = classes.class(index);
         for _ in 0..5 {
             let state = any_state(&mut random, &file);
-            stages[state[0].min(8) as usize] += 1;
+            stages[state[0].min(9) as usize] += 1;
             let size = random.among(&SIZES);
             // The same words and lines, and another memory: the same answer, of one part and of all.
             let answers: Vec<_> = memories
@@ -166,7 +185,7 @@ fn from_any_words() {
     assert!(lines_of > 3_000 && stages.iter().all(|count| *count > 50), "{lines_of} {stages:?}");
 }
 
-/// "1": under 12 words, under 128 bytes of lines, or too short a session memory, whatever else is lent.
+/// "1": under 18 words, under 128 bytes of lines, or too short a session memory, whatever else is lent.
 #[test]
 fn too_short() {
     let mut random = Random::new(25);

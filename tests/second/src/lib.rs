@@ -1,7 +1,7 @@
 //! The second engine: an independent reading of document 01, to be compared with the proved one.
 //!
 //! One idea a file. The doc comments quote the sentence of document 01 that the code follows; "reading n" is section 7
-//! of the design. The class report follows request E1 of document 02.
+//! of the design. The class report follows requests E1 and E2 of document 02.
 
 pub mod call;
 pub mod census;

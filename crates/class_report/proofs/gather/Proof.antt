@@ -17,8 +17,8 @@ part-take-end c = search needs
 take-requires : tie.Need-take-requires
 take-requires c κs = search needs
 
-add-t11 : tie.Need-add-t11
-add-t11 c = omega (arith, c .before .before .before .before .before .before .take .ensures .moved .short, c .before .before .before .before .before .before .before .before .before .before .before .before .pre .2)
+add-t13 : tie.Need-add-t13
+add-t13 c = omega (arith, c .before .before .before .before .before .before .take .ensures .moved .told .short, c .before .before .before .before .before .before .before .before .before .before .before .before .pre .0 .2)
 
 same-length : tie.Need-same-length
 same-length c = search needs
@@ -30,18 +30,18 @@ returns : tie.Need-returns
 returns c =
     let start = c .before .before .before .before .before .before .before .before .before .before .before .before in
     let a = start .args in
-    let r = start .pre .0 in
+    let r = start .pre .0 .0 in
     let t = c .before .before .before .before .before .before .take in
-    let line = t .ensures .moved .line in (
-      t .ensures .moved .report,
+    let line = t .ensures .moved .told .line in (
+      t .ensures .moved .told .report,
       (
         record {
           place = omega (arith, line .place);
-          written = rw (line .written) (splice-tail (a .lines .now) (a .filled) _ (omega (arith, start .pre .1, start .pre .2)));
+          written = rw (line .written) (splice-tail (a .lines .now) (a .filled) _ (omega (arith, start .pre .0 .1, start .pre .0 .2)));
         },
         (
-          record { lends = (rw (t .kept .1 .1 .0) (r .lends .0), rw (same-length-2 c) (r .lends .1)); keeps = t .ensures .keeps },
-          rw (same-length-2 c) (omega (arith, t .ensures .moved .short, start .pre .1, start .pre .2)),
+          record { lends = (rw (t .kept .1 .1 .1 .1 .0) (r .lends .0), rw (same-length-2 c) (r .lends .1)); keeps = t .ensures .keeps },
+          rw (same-length-2 c) (omega (arith, t .ensures .moved .told .short, start .pre .0 .1, start .pre .0 .2)),
         ),
       ),
     )
@@ -54,7 +54,7 @@ gather-spec =
     part-take-start
     part-take-end
     take-requires
-    add-t11
+    add-t13
     same-length
     same-length-2
     returns)

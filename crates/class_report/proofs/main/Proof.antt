@@ -1,20 +1,25 @@
--- `class_report::main` is safe and ends: there is room for each step's line, and the session in memory stays kept.
+-- `class_report::main` is safe and ends: there is room for each step's line, the session in memory stays kept, and the pending sheet
+-- lies in one half of the memory for two.
 use Prim.Native.Nat.{ℕ, _+_, _≤_}
-use mathlib.Core.Path.{_≡_, sym, _∙_}
+use mathlib.Core.Path.{_≡_, sym, subst, _∙_}
 use native.Mathlib.Omega.{arith}
 use borrow.Author.Needs.{needs}
 use lib.ListN.{length, replicate, length-replicate}
 use lib.Seq.{length-take-le}
 use Rattle.sheet.specs.Printing.{Ready, ready-fresh}
+use Rattle.class.specs.declared.Report.{Report}
+use Rattle.class.specs.Steps.{begun}
+use Rattle.class.specs.Halves.{InHalf}
+use Rattle.class_report.specs.Reads.{step-half}
 use Rattle.class_report.proofs.main.Statement.{statement}
 use Rattle.class_report.proofs.main.Tie as tie
 
 abbrev Inv-loop : tie.InvT-loop
-Inv-loop memory₀ bytes₀ lines₀ filled₀ report₀ turns₀ memory bytes lines filled report turns =
-    Ready memory lines × (length memory ≡ 40518) × (length bytes ≡ 32768) × (length lines ≡ 16384) × (filled + 128 ≤ 16384)
+Inv-loop memory₀ room₀ lines₀ filled₀ report₀ turns₀ memory room lines filled report turns =
+    Ready memory lines × (length memory ≡ 40518) × (length room ≡ 65536) × (length lines ≡ 16384) × (filled + 128 ≤ 16384) × InHalf (report .pending)
 
 abbrev μ-loop : tie.MeasureT-loop
-μ-loop memory₀ bytes₀ lines₀ filled₀ report₀ turns₀ memory bytes lines filled report turns = turns
+μ-loop memory₀ room₀ lines₀ filled₀ report₀ turns₀ memory room lines filled report turns = turns
 
 slice-aggregate-write-fresh : tie.Need-slice-aggregate-write-fresh Inv-loop μ-loop
 slice-aggregate-write-fresh c = search needs
@@ -26,27 +31,31 @@ begin-requires : tie.Need-begin-requires Inv-loop μ-loop
 begin-requires c κs = search needs
 
 loop-holds : tie.Need-loop-holds Inv-loop μ-loop
+unfolding begun
 loop-holds c =
     let m = length-replicate {A = ℕ} 40518 0 in
-    let b = length-replicate {A = ℕ} 32768 0 in
+    let b = length-replicate {A = ℕ} 65536 0 in
     let l = length-replicate {A = ℕ} 16384 0 in
-    let w = c .before .before .write-fresh in
-    (ready-fresh (replicate 40518 0) _ (replicate 16384 0) (omega arith) (omega arith) (w .ensures .1), w .kept .0 ∙ m, b, l, omega arith)
+    let w = c .before .before .write-fresh in (
+      ready-fresh (replicate 40518 0) _ (replicate 16384 0) (omega arith) (omega arith) (w .ensures .1),
+      w .kept .0 ∙ m,
+      b,
+      l,
+      omega arith,
+      subst (λ (r : Report). InHalf (r .pending)) (sym (c .begin .ensures)) tt,
+    )
 
-asks-requires : tie.Need-asks-requires Inv-loop μ-loop
-asks-requires c κs = search needs
+free-half-requires : tie.Need-free-half-requires Inv-loop μ-loop
+free-half-requires c κs = search needs
 
 slice-aggregate-read-asked : tie.Need-slice-aggregate-read-asked Inv-loop μ-loop
 slice-aggregate-read-asked c = search needs
 
 read-asked-requires : tie.Need-read-asked-requires Inv-loop μ-loop
-read-asked-requires c κs = search needs
-
-array-share-prefix-bytes : tie.Need-array-share-prefix-bytes Inv-loop μ-loop
-array-share-prefix-bytes c = search needs
+read-asked-requires c κs = let i = c .before .before .before .loop .inv in (i .2, i .5, c .before .free-half .ensures)
 
 slice-aggregate-gather : tie.Need-slice-aggregate-gather Inv-loop μ-loop
-slice-aggregate-gather c = sym (length-take-le _ _ (c .before .before .read-asked .ensures))
+slice-aggregate-gather c = search needs
 
 slice-aggregate-gather-2 : tie.Need-slice-aggregate-gather-2 Inv-loop μ-loop
 slice-aggregate-gather-2 c = search needs
@@ -57,7 +66,8 @@ slice-aggregate-gather-3 c = search needs
 gather-requires : tie.Need-gather-requires Inv-loop μ-loop
 gather-requires c κs =
     let i = c .before .before .before .before .before .before .before .before .loop .inv in
-    (i .0, search needs, i .4)
+    let g = c .before .before .before .before .read-asked .ensures in
+    ((i .0, search needs, i .4), (g .from, g .inside))
 
 enum-told : tie.Need-enum-told Inv-loop μ-loop
 enum-told c = search needs
@@ -89,7 +99,10 @@ loop-less c = search needs
 loop-again : tie.Need-loop-again Inv-loop μ-loop
 loop-again c =
     let g = c .before .before .before .before .before .before .gather in
-    (g .ensures .1 .1 .0, search needs, search needs, search needs, c .write-full .ensures)
+    let i = c .before .before .before .before .before .before .before .before .before .before .before .before .before .before .before .loop .inv in
+    let r = c .before .before .before .before .before .before .before .before .before .before .before .read-asked .ensures in
+    let h = step-half _ _ _ _ _ _ (r .long ∙ i .2) (c .before .before .before .before .before .before .before .before .before .before .before .before .before .free-half .ensures) (i .5) (g .ensures .0) in
+    (g .ensures .1 .1 .0, search needs, search needs, search needs, c .write-full .ensures, h)
 
 returns-2 : tie.Need-returns-2 Inv-loop μ-loop
 returns-2 c = search needs
@@ -104,10 +117,9 @@ main-spec =
     write-fresh-requires
     begin-requires
     loop-holds
-    asks-requires
+    free-half-requires
     slice-aggregate-read-asked
     read-asked-requires
-    array-share-prefix-bytes
     slice-aggregate-gather
     slice-aggregate-gather-2
     slice-aggregate-gather-3

@@ -1,7 +1,7 @@
 -- `class::printing::write_counts` meets its contract: its four numbers, one behind the other.
 use native.Mathlib.Omega.{arith}
 use Rattle.text.specs.Put.{put-then}
-use Rattle.class.specs.Report.{countsLine}
+use Rattle.class_rules.specs.Report.{countsLine}
 use borrow.Author.Needs.{needs}
 use Rattle.class.proofs.printing.write_counts.Statement.{statement}
 use Rattle.class.proofs.printing.write_counts.Tie as tie

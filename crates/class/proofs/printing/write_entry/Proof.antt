@@ -1,7 +1,7 @@
 -- `class::printing::write_entry` meets its contract: its numbers, one behind the other.
 use native.Mathlib.Omega.{arith}
 use Rattle.text.specs.Put.{put-then}
-use Rattle.class.specs.Report.{entryLine}
+use Rattle.class_rules.specs.Report.{entryLine}
 use borrow.Author.Needs.{needs}
 use Rattle.class.proofs.printing.write_entry.Statement.{statement}
 use Rattle.class.proofs.printing.write_entry.Tie as tie

@@ -1,7 +1,7 @@
 -- `class::printing::write_stop` meets its contract.
 use native.Mathlib.Omega.{arith}
 use Rattle.text.specs.Put.{put-then}
-use Rattle.class.specs.Report.{stopLine}
+use Rattle.class_rules.specs.Report.{stopLine}
 use borrow.Author.Needs.{needs}
 use Rattle.class.proofs.printing.write_stop.Statement.{statement}
 use Rattle.class.proofs.printing.write_stop.Tie as tie

@@ -33,6 +33,9 @@ enum-told-7 c = search needs
 enum-told-8 : tie.Need-enum-told-8
 enum-told-8 c = search needs
 
+enum-told-9 : tie.Need-enum-told-9
+enum-told-9 c = search needs
+
 returns : tie.Need-returns
 unfolding asksAt
 returns c = (ap (asksAt (c .before .before .args .report)) (sym (c .enum-told .given .1)), omega arith)
@@ -67,6 +70,10 @@ returns-8 : tie.Need-returns-8
 unfolding asksAt
 returns-8 c = (ap (asksAt (c .before .before .args .report)) (sym (c .enum-told8 .given .1)), omega arith)
 
+returns-9 : tie.Need-returns-9
+unfolding asksAt
+returns-9 c = (ap (asksAt (c .before .before .args .report)) (sym (c .enum-told9 .given .1)), omega arith)
+
 pub asks-spec : {M : Type 1} → statement M
 asks-spec =
     tie.close
@@ -80,6 +87,7 @@ asks-spec =
     enum-told-6
     enum-told-7
     enum-told-8
+    enum-told-9
     returns
     returns-2
     returns-3
@@ -87,4 +95,5 @@ asks-spec =
     returns-5
     returns-6
     returns-7
-    returns-8)
+    returns-8
+    returns-9)

@@ -3,7 +3,7 @@ use mathlib.Core.Path.{sym}
 use native.Mathlib.Omega.{arith}
 use Rattle.rules.specs.Formula.{Formula._≼_}
 use Rattle.rules.specs.FormulaLaws.{choose-yes, choose-no}
-use Rattle.class.specs.Report.{mostBytes}
+use Rattle.class_rules.specs.Report.{mostBytes}
 use Rattle.class.proofs.steps.asks_sheet.Statement.{statement}
 use Rattle.class.proofs.steps.asks_sheet.Tie as tie
 

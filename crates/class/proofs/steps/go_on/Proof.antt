@@ -1,19 +1,19 @@
 -- `class::steps::go_on` meets its contract.
-use Rattle.class.specs.Steps.{going}
 use mathlib.Core.Path.{refl}
+use Rattle.class.specs.Steps.{going}
 use borrow.Author.Needs.{needs}
 use Rattle.class.proofs.steps.go_on.Statement.{statement}
 use Rattle.class.proofs.steps.go_on.Tie as tie
 
-entry-or-sums-requires : tie.Need-entry-or-sums-requires
-entry-or-sums-requires c κs = search needs
+entry-or-line-requires : tie.Need-entry-or-line-requires
+entry-or-line-requires c κs = search needs
 
 start-requires : tie.Need-start-requires
 start-requires c κs = search needs
 
 returns : tie.Need-returns
 unfolding going
-returns c = rw (c .before .entry-or-sums .ensures, c .start .ensures) refl
+returns c = rw (c .before .entry-or-line .ensures, c .start .ensures) refl
 
 pub go-on-spec : {M : Type 1} → statement M
-go-on-spec = tie.close (tie.spec entry-or-sums-requires start-requires returns)
+go-on-spec = tie.close (tie.spec entry-or-line-requires start-requires returns)

@@ -1,7 +1,7 @@
--- `class::steps::take` meets its contract: stage by stage.
-use mathlib.Core.Path.{refl, sym, _∙_}
-use Rattle.class.specs.Steps.{doesAt, leavesAt}
-use Rattle.class.specs.Stepped.{took-at, took-still, took-byte, ran-keeps, moved-still}
+-- `class::steps::take` meets its contract: the step at each stage.
+use mathlib.Core.Path.{refl, _∙_}
+use Rattle.class.specs.Steps.{doesAt}
+use Rattle.class.specs.Stepped.{took-at, took-byte, moved-told, moved-still}
 use borrow.Author.Needs.{needs}
 use Rattle.class.proofs.steps.take.Statement.{statement}
 use Rattle.class.proofs.steps.take.Tie as tie
@@ -15,26 +15,74 @@ print-head-requires c κs = search needs
 enum-told-2 : tie.Need-enum-told-2
 enum-told-2 c = search needs
 
+sub-take-byte : tie.Need-sub-take-byte
+sub-take-byte c = search needs
+
+part-take-byte-start : tie.Need-part-take-byte-start
+part-take-byte-start c = search needs
+
+part-take-byte-end : tie.Need-part-take-byte-end
+part-take-byte-end c = search needs
+
 take-byte-requires : tie.Need-take-byte-requires
 take-byte-requires c κs = search needs
+
+silent-requires : tie.Need-silent-requires
+silent-requires c κs = search needs
 
 enum-told-3 : tie.Need-enum-told-3
 enum-told-3 c = search needs
 
+sub-take-byte-2 : tie.Need-sub-take-byte-2
+sub-take-byte-2 c = search needs
+
+part-take-byte-start-2 : tie.Need-part-take-byte-start-2
+part-take-byte-start-2 c = search needs
+
+part-take-byte-end-2 : tie.Need-part-take-byte-end-2
+part-take-byte-end-2 c = search needs
+
 take-byte-requires-2 : tie.Need-take-byte-requires-2
 take-byte-requires-2 c κs = search needs
+
+silent-requires-2 : tie.Need-silent-requires-2
+silent-requires-2 c κs = search needs
 
 enum-told-4 : tie.Need-enum-told-4
 enum-told-4 c = search needs
 
+sub-take-byte-3 : tie.Need-sub-take-byte-3
+sub-take-byte-3 c = search needs
+
+part-take-byte-start-3 : tie.Need-part-take-byte-start-3
+part-take-byte-start-3 c = search needs
+
+part-take-byte-end-3 : tie.Need-part-take-byte-end-3
+part-take-byte-end-3 c = search needs
+
 take-byte-requires-3 : tie.Need-take-byte-requires-3
 take-byte-requires-3 c κs = search needs
+
+silent-requires-3 : tie.Need-silent-requires-3
+silent-requires-3 c κs = search needs
 
 enum-told-5 : tie.Need-enum-told-5
 enum-told-5 c = search needs
 
+sub-take-byte-4 : tie.Need-sub-take-byte-4
+sub-take-byte-4 c = search needs
+
+part-take-byte-start-4 : tie.Need-part-take-byte-start-4
+part-take-byte-start-4 c = search needs
+
+part-take-byte-end-4 : tie.Need-part-take-byte-end-4
+part-take-byte-end-4 c = search needs
+
 take-byte-requires-4 : tie.Need-take-byte-requires-4
 take-byte-requires-4 c κs = search needs
+
+silent-requires-4 : tie.Need-silent-requires-4
+silent-requires-4 c κs = search needs
 
 enum-told-6 : tie.Need-enum-told-6
 enum-told-6 c = search needs
@@ -45,11 +93,17 @@ take-sheet-requires c κs = search needs
 enum-told-7 : tie.Need-enum-told-7
 enum-told-7 c = search needs
 
-print-sums-requires : tie.Need-print-sums-requires
-print-sums-requires c κs = search needs
+print-pending-requires : tie.Need-print-pending-requires
+print-pending-requires c κs = search needs
 
 enum-told-8 : tie.Need-enum-told-8
 enum-told-8 c = search needs
+
+print-last-requires : tie.Need-print-last-requires
+print-last-requires c κs = search needs
+
+enum-told-9 : tie.Need-enum-told-9
+enum-told-9 c = search needs
 
 start-requires : tie.Need-start-requires
 start-requires c κs = search needs
@@ -57,78 +111,89 @@ start-requires c κs = search needs
 at-stage-requires : tie.Need-at-stage-requires
 at-stage-requires c κs = search needs
 
+silent-requires-5 : tie.Need-silent-requires-5
+silent-requires-5 c κs = search needs
+
 same-length : tie.Need-same-length
 same-length c = search needs
 
 returns : tie.Need-returns
-unfolding doesAt leavesAt
+unfolding doesAt
 returns c =
     let s = c .before .before .before .before .before .before .before .before .before in
-    took-still (s .args .report) _ _ _ _ _ _ (c .before .before .before .before .enum-told .given .1) (s .pre .1) refl (c .before .before .print-head .ensures)
+    took-at (s .args .report) _ _ _ _ _ _ _ _ _ (c .before .before .before .before .enum-told .given .1) (s .pre .0 .1)
+    (moved-told _ (c .before .before .print-head .ensures))
+
+returns-2 : tie.Need-returns-2
+unfolding doesAt
+returns-2 c =
+    let s = c .before .before .before .before .before .before .before .before in
+    took-byte (s .args .report) _ _ _ _ _ _ _ (c .before .before .before .enum-told2 .given .1) (s .pre .0 .1) refl
+    (c .silent .ensures .0 ∙ c .before .take-byte .ensures) (c .silent .ensures .1)
+
+returns-3 : tie.Need-returns-3
+unfolding doesAt
+returns-3 c =
+    let s = c .before .before .before .before .before .before .before .before in
+    took-byte (s .args .report) _ _ _ _ _ _ _ (c .before .before .before .enum-told3 .given .1) (s .pre .0 .1) refl
+    (c .silent2 .ensures .0 ∙ c .before .take-byte2 .ensures) (c .silent2 .ensures .1)
+
+returns-4 : tie.Need-returns-4
+unfolding doesAt
+returns-4 c =
+    let s = c .before .before .before .before .before .before .before .before in
+    took-byte (s .args .report) _ _ _ _ _ _ _ (c .before .before .before .enum-told4 .given .1) (s .pre .0 .1) refl
+    (c .silent3 .ensures .0 ∙ c .before .take-byte3 .ensures) (c .silent3 .ensures .1)
+
+returns-5 : tie.Need-returns-5
+unfolding doesAt
+returns-5 c =
+    let s = c .before .before .before .before .before .before .before .before in
+    took-byte (s .args .report) _ _ _ _ _ _ _ (c .before .before .before .enum-told5 .given .1) (s .pre .0 .1) refl
+    (c .silent4 .ensures .0 ∙ c .before .take-byte4 .ensures) (c .silent4 .ensures .1)
 
 same-length-2 : tie.Need-same-length-2
 same-length-2 c = search needs
 
-returns-2 : tie.Need-returns-2
-unfolding doesAt leavesAt
-returns-2 c =
-    let s = c .before .before .before .before .before .before .before .before .before in
-    took-byte (s .args .report) _ _ _ _ _ _ (c .before .before .before .before .enum-told2 .given .1) (s .pre .1) refl refl (c .before .before .take-byte .ensures)
-
 same-length-3 : tie.Need-same-length-3
 same-length-3 c = search needs
 
-returns-3 : tie.Need-returns-3
-unfolding doesAt leavesAt
-returns-3 c =
-    let s = c .before .before .before .before .before .before .before .before .before in
-    took-byte (s .args .report) _ _ _ _ _ _ (c .before .before .before .before .enum-told3 .given .1) (s .pre .1) refl refl (c .before .before .take-byte2 .ensures)
+returns-6 : tie.Need-returns-6
+unfolding doesAt
+returns-6 c =
+    let s = c .before .before .before .before .before .before .before .before .before .before .before .before in
+    took-at (s .args .report) _ _ _ _ _ _ _ _ _ (c .before .before .before .before .before .before .before .enum-told6 .given .1) (s .pre .0 .1)
+    (c .before .before .before .before .take-sheet .ensures)
 
 same-length-4 : tie.Need-same-length-4
 same-length-4 c = search needs
 
-returns-4 : tie.Need-returns-4
-unfolding doesAt leavesAt
-returns-4 c =
-    let s = c .before .before .before .before .before .before .before .before .before in
-    took-byte (s .args .report) _ _ _ _ _ _ (c .before .before .before .before .enum-told4 .given .1) (s .pre .1) refl refl (c .before .before .take-byte3 .ensures)
-
 same-length-5 : tie.Need-same-length-5
 same-length-5 c = search needs
 
-returns-5 : tie.Need-returns-5
-unfolding doesAt leavesAt
-returns-5 c =
-    let s = c .before .before .before .before .before .before .before .before .before in
-    took-byte (s .args .report) _ _ _ _ _ _ (c .before .before .before .before .enum-told5 .given .1) (s .pre .1) refl refl (c .before .before .take-byte4 .ensures)
+returns-7 : tie.Need-returns-7
+unfolding doesAt
+returns-7 c =
+    let s = c .before .before .before .before .before .before .before .before .before .before .before .before in
+    took-at (s .args .report) _ _ _ _ _ _ _ _ _ (c .before .before .before .before .before .before .before .enum-told7 .given .1) (s .pre .0 .1)
+    (c .before .before .before .before .print-pending .ensures)
 
 same-length-6 : tie.Need-same-length-6
 same-length-6 c = search needs
 
-same-length-7 : tie.Need-same-length-7
-same-length-7 c = search needs
-
-returns-6 : tie.Need-returns-6
-unfolding doesAt leavesAt
-returns-6 c =
-    let s = c .before .before .before .before .before .before .before .before .before .before .before .before in
-    let t = c .before .before .before .before .take-sheet .ensures in
-    took-at (s .args .report) _ _ _ _ _ _ _ (c .before .before .before .before .before .before .before .enum-told6 .given .1) (t .0) (t .1) (rw (t .1 .reading) (ran-keeps (s .args .report) _ _ (s .pre .1)))
-
-same-length-8 : tie.Need-same-length-8
-same-length-8 c = search needs
-
-returns-7 : tie.Need-returns-7
-unfolding doesAt leavesAt
-returns-7 c =
-    let s = c .before .before .before .before .before .before .before .before .before in
-    took-still (s .args .report) _ _ _ _ _ _ (c .before .before .before .before .enum-told7 .given .1) (s .pre .1) refl (c .before .before .print-sums .ensures)
-
 returns-8 : tie.Need-returns-8
-unfolding doesAt leavesAt
+unfolding doesAt
 returns-8 c =
-    let s = c .before .before .before .before .before .before .before in
-    took-still (s .args .report) _ _ _ _ _ _ (c .before .before .enum-told8 .given .1) (s .pre .1) refl (moved-still _ _ _ (rw (c .before .start .ensures) at (c .at-stage .ensures)))
+    let s = c .before .before .before .before .before .before .before .before .before in
+    took-at (s .args .report) _ _ _ _ _ _ _ _ _ (c .before .before .before .before .enum-told8 .given .1) (s .pre .0 .1)
+    (moved-told _ (c .before .before .print-last .ensures))
+
+returns-9 : tie.Need-returns-9
+unfolding doesAt
+returns-9 c =
+    let s = c .before .before .before .before .before .before .before .before in
+    took-at (s .args .report) _ _ _ _ _ _ _ _ _ (c .before .before .before .enum-told9 .given .1) (s .pre .0 .1)
+    (moved-still _ _ _ _ (c .silent5 .ensures .0 ∙ rw (c .before .before .start .ensures) at (c .before .at-stage .ensures)) (c .silent5 .ensures .1))
 
 pub take-spec : {M : Type 1} → statement M
 take-spec =
@@ -137,33 +202,51 @@ take-spec =
     enum-told
     print-head-requires
     enum-told-2
+    sub-take-byte
+    part-take-byte-start
+    part-take-byte-end
     take-byte-requires
+    silent-requires
     enum-told-3
+    sub-take-byte-2
+    part-take-byte-start-2
+    part-take-byte-end-2
     take-byte-requires-2
+    silent-requires-2
     enum-told-4
+    sub-take-byte-3
+    part-take-byte-start-3
+    part-take-byte-end-3
     take-byte-requires-3
+    silent-requires-3
     enum-told-5
+    sub-take-byte-4
+    part-take-byte-start-4
+    part-take-byte-end-4
     take-byte-requires-4
+    silent-requires-4
     enum-told-6
     take-sheet-requires
     enum-told-7
-    print-sums-requires
+    print-pending-requires
     enum-told-8
+    print-last-requires
+    enum-told-9
     start-requires
     at-stage-requires
+    silent-requires-5
     same-length
     returns
-    same-length-2
     returns-2
-    same-length-3
     returns-3
-    same-length-4
     returns-4
-    same-length-5
     returns-5
-    same-length-6
-    same-length-7
+    same-length-2
+    same-length-3
     returns-6
-    same-length-8
+    same-length-4
+    same-length-5
     returns-7
-    returns-8)
+    same-length-6
+    returns-8
+    returns-9)

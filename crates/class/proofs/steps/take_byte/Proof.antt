@@ -1,23 +1,19 @@
 -- `class::steps::take_byte` meets its contract: by what feeding the byte gives.
 use mathlib.Core.Path.{sym, _∙_}
 use native.Mathlib.Omega.{arith}
-use mathlib.Core.Path.{refl}
 use Rattle.class.specs.Steps.{numbered}
-use Rattle.class.specs.Stepped.{byte-none, byte-some, moved-as, moved-still}
+use Rattle.class.specs.Stepped.{byte-none, byte-some}
 use borrow.Author.Needs.{needs}
 use Rattle.class.proofs.steps.take_byte.Statement.{statement}
 use Rattle.class.proofs.steps.take_byte.Tie as tie
 
-stop-requires : tie.Need-stop-requires
-stop-requires c κs = search needs
-
-same-length : tie.Need-same-length
-same-length c = search needs
+stopped-requires : tie.Need-stopped-requires
+stopped-requires c κs = search needs
 
 returns : tie.Need-returns
 returns c =
-    let a = c .before .before .before .before .before .before .before .args in
-    moved-as _ _ _ _ _ (byte-none (a .report) (a .report .stage) (a .bytes .now) (omega arith)) (c .before .before .stop .ensures)
+    let a = c .before .before .before .args in
+    c .stopped .ensures ∙ byte-none (a .report) (a .report .stage) (a .bytes .now) (omega arith)
 
 shared-slice-read-feed : tie.Need-shared-slice-read-feed
 shared-slice-read-feed c = search needs
@@ -40,39 +36,35 @@ with-value-requires c κs = search needs
 enum-told : tie.Need-enum-told
 enum-told c = search needs
 
-stop-requires-2 : tie.Need-stop-requires-2
-stop-requires-2 c κs = search needs
+stopped-requires-2 : tie.Need-stopped-requires-2
+stopped-requires-2 c κs = search needs
 
 returns-2 : tie.Need-returns-2
 unfolding numbered
 returns-2 c =
-    let a = c .before .before .before .before .before .before .before .before .before .before .args in
+    let a = c .before .before .before .before .before .before .before .before .before .args in
     let f = sym (c .before .before .next .given .1) ∙ c .before .before .before .before .feed .ensures in
-    moved-as _ _ _ _ _ (byte-some (a .report) (a .report .stage) (a .bytes .now) _ (omega arith) f) (moved-still _ _ _ (c .at-stage .ensures))
+    c .at-stage .ensures ∙ byte-some (a .report) (a .report .stage) (a .bytes .now) _ (omega arith) f
 
 returns-3 : tie.Need-returns-3
 unfolding numbered
 returns-3 c =
-    let a = c .before .before .before .before .before .before .before .before .before .before .args in
+    let a = c .before .before .before .before .before .before .before .before .before .args in
     let f = sym (c .before .before .v .given .1) ∙ c .before .before .before .before .feed .ensures in
-    moved-as _ _ _ _ _ (byte-some (a .report) (a .report .stage) (a .bytes .now) _ (omega arith) f) (moved-still _ _ _ (c .with-value .ensures))
-
-same-length-2 : tie.Need-same-length-2
-same-length-2 c = search needs
+    c .with-value .ensures ∙ byte-some (a .report) (a .report .stage) (a .bytes .now) _ (omega arith) f
 
 returns-4 : tie.Need-returns-4
 unfolding numbered
 returns-4 c =
-    let a = c .before .before .before .before .before .before .before .before .before .before .before .before .args in
-    let f = sym (c .before .before .before .before .enum-told .given .1) ∙ c .before .before .before .before .before .before .feed .ensures in
-    moved-as _ _ _ _ _ (byte-some (a .report) (a .report .stage) (a .bytes .now) _ (omega arith) f) (c .before .before .stop2 .ensures)
+    let a = c .before .before .before .before .before .before .before .before .args in
+    let f = sym (c .before .enum-told .given .1) ∙ c .before .before .before .feed .ensures in
+    c .stopped2 .ensures ∙ byte-some (a .report) (a .report .stage) (a .bytes .now) _ (omega arith) f
 
 pub take-byte-spec : {M : Type 1} → statement M
 take-byte-spec =
     tie.close
     (tie.spec
-    stop-requires
-    same-length
+    stopped-requires
     returns
     shared-slice-read-feed
     feed-requires
@@ -81,8 +73,7 @@ take-byte-spec =
     enum-known-v
     with-value-requires
     enum-told
-    stop-requires-2
+    stopped-requires-2
     returns-2
     returns-3
-    same-length-2
     returns-4)

@@ -41,37 +41,52 @@ enum-told-7 c = search needs
 enum-told-8 : tie.Need-enum-told-8
 enum-told-8 c = search needs
 
+enum-told-9 : tie.Need-enum-told-9
+enum-told-9 c = search needs
+
 returns : tie.Need-returns
 unfolding valued
-returns c = c .go-on .ensures ∙ ap (λ stage. valued (c .before .before .before .before .args .report) stage (c .before .before .before .before .args .v)) (sym (c .before .enum-told .given .1))
+returns c =
+    let a = c .before .before .before .before .args in
+    c .go-on .ensures ∙ ap (λ stage. valued (a .report) stage (a .v)) (sym (c .before .enum-told .given .1))
 
 returns-2 : tie.Need-returns-2
 unfolding valued
-returns-2 c = c .with-entry .ensures ∙ ap (λ stage. valued (c .before .before .before .before .args .report) stage (c .before .before .before .before .args .v)) (sym (c .before .enum-told2 .given .1))
+returns-2 c =
+    let a = c .before .before .before .before .args in
+    c .with-entry .ensures ∙ ap (λ stage. valued (a .report) stage (a .v)) (sym (c .before .enum-told2 .given .1))
 
 returns-3 : tie.Need-returns-3
 unfolding valued
-returns-3 c = c .with-entry2 .ensures ∙ ap (λ stage. valued (c .before .before .before .before .args .report) stage (c .before .before .before .before .args .v)) (sym (c .before .enum-told3 .given .1))
+returns-3 c =
+    let a = c .before .before .before .before .args in
+    c .with-entry2 .ensures ∙ ap (λ stage. valued (a .report) stage (a .v)) (sym (c .before .enum-told3 .given .1))
 
 returns-4 : tie.Need-returns-4
 unfolding valued
-returns-4 c = c .with-entry3 .ensures ∙ ap (λ stage. valued (c .before .before .before .before .args .report) stage (c .before .before .before .before .args .v)) (sym (c .before .enum-told4 .given .1))
+returns-4 c =
+    let a = c .before .before .before .before .args in
+    c .with-entry3 .ensures ∙ ap (λ stage. valued (a .report) stage (a .v)) (sym (c .before .enum-told4 .given .1))
 
 returns-5 : tie.Need-returns-5
 unfolding valued
-returns-5 c = ap (λ stage. valued (c .before .before .before .args .report) stage (c .before .before .before .args .v)) (sym (c .enum-told5 .given .1))
+returns-5 c = let a = c .before .before .before .args in ap (λ stage. valued (a .report) stage (a .v)) (sym (c .enum-told5 .given .1))
 
 returns-6 : tie.Need-returns-6
 unfolding valued
-returns-6 c = ap (λ stage. valued (c .before .before .before .args .report) stage (c .before .before .before .args .v)) (sym (c .enum-told6 .given .1))
+returns-6 c = let a = c .before .before .before .args in ap (λ stage. valued (a .report) stage (a .v)) (sym (c .enum-told6 .given .1))
 
 returns-7 : tie.Need-returns-7
 unfolding valued
-returns-7 c = ap (λ stage. valued (c .before .before .before .args .report) stage (c .before .before .before .args .v)) (sym (c .enum-told7 .given .1))
+returns-7 c = let a = c .before .before .before .args in ap (λ stage. valued (a .report) stage (a .v)) (sym (c .enum-told7 .given .1))
 
 returns-8 : tie.Need-returns-8
 unfolding valued
-returns-8 c = ap (λ stage. valued (c .before .before .before .args .report) stage (c .before .before .before .args .v)) (sym (c .enum-told8 .given .1))
+returns-8 c = let a = c .before .before .before .args in ap (λ stage. valued (a .report) stage (a .v)) (sym (c .enum-told8 .given .1))
+
+returns-9 : tie.Need-returns-9
+unfolding valued
+returns-9 c = let a = c .before .before .before .args in ap (λ stage. valued (a .report) stage (a .v)) (sym (c .enum-told9 .given .1))
 
 pub with-value-spec : {M : Type 1} → statement M
 with-value-spec =
@@ -89,6 +104,7 @@ with-value-spec =
     enum-told-6
     enum-told-7
     enum-told-8
+    enum-told-9
     returns
     returns-2
     returns-3
@@ -96,4 +112,5 @@ with-value-spec =
     returns-5
     returns-6
     returns-7
-    returns-8)
+    returns-8
+    returns-9)

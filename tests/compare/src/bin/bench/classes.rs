@@ -1,12 +1,12 @@
 //! Sheets per second of a class report: the proved one through the library, part by part, beside the second engine's;
-//! and a sheet in a class beside the same sheet alone.
+//! and a sheet in a class beside the same sheet alone. Then reports of learners with one turn and with ten.
 
 use std::fs;
 use std::path::Path;
 use std::time::{Duration, Instant};
 
 use compare::layout::WORDS;
-use compare::reports::{class_of, report};
+use compare::reports::{class_of, report, turns_of};
 use compare::Memory;
 use second::random::Random;
 use second::sheets::{random_sheet, short_sheet};
@@ -22,6 +22,10 @@ const SEED: u64 = 20_261_116;
 /// Bytes of line memory of a part: for many lines, and the fewest that are taken.
 const LINES: usize = 16_384;
 const ONE_LINE: usize = 128;
+
+/// Learners, and turns of each, where later turns replace earlier ones.
+const LEARNERS: usize = 100;
+const TURNS: usize = 10;
 
 /// The generator's long sheets are each sixteenth, from the eighth on.
 const LONG: u64 = 8;
@@ -40,6 +44,50 @@ pub fn print_table() {
     print_row("the listing", &vec![listing(); 1_000], LINES);
     print_row("long", &long, LINES);
     print_row("short", &short, ONE_LINE);
+    println!();
+    print_turns(&[("short", &short[..LEARNERS * TURNS]), ("the listing", &vec![listing(); LEARNERS * TURNS]), ("long", &long)]);
+}
+
+/// A class of learners with one sheet each, beside the same learners with nine earlier turns before it.
+fn print_turns(kinds: &[(&str, &[Vec<u8>])]) {
+    println!("| sheets | learners | turns of each | bytes | proved, µs | second, µs | proved / second | as much as with one turn |");
+    println!("|---|---|---|---|---|---|---|---|");
+    for (name, sheets) in kinds {
+        let learners = sheets.len() / TURNS;
+        let mut once = 0.0;
+        for count in [1, TURNS] {
+            let turns: Vec<Vec<_>> = (0..learners)
+                .map(|place| (TURNS - count..TURNS).map(|turn| (turn as u64, sheets[place * TURNS + turn].clone())).collect())
+                .collect();
+            let file = turns_of(&turns);
+            let [proved, second] = reported(&file, LINES).map(|time| 1e6 * time.as_secs_f64());
+            if count == 1 {
+                once = proved;
+            }
+            println!(
+                "| {name} | {learners} | {count} | {} | {proved:.1} | {second:.1} | {:.2} | {:.2} |",
+                file.len(),
+                second / proved,
+                proved / once
+            );
+        }
+    }
+}
+
+/// The median time of both reports of a class file, which are the same.
+fn reported(file: &[u8], room: usize) -> [Duration; 2] {
+    let mut memory = Memory::new(vec![0; WORDS]);
+    let mut lines = vec![0; room];
+    let (mut proved, mut second, mut times) = (vec![], vec![], [vec![], vec![]]);
+    let began = Instant::now();
+    while times[0].len() < ROUNDS && (times[0].len() < 3 || began.elapsed() < PATIENCE) {
+        proved.clear();
+        second.clear();
+        timed(&mut times[0], || report(&mut memory, file, &mut lines, &mut proved));
+        timed(&mut times[1], || second::class::report(file, &mut second));
+        assert!(proved == second, "the reports differ");
+    }
+    times.map(median)
 }
 
 /// Document 01's listing, which is the sheet program's input.

@@ -1,0 +1,19 @@
+-- `class::steps::hold_later` meets its contract.
+use borrow.Author.Needs.{needs}
+use Rattle.class.proofs.steps.hold_later.Statement.{statement}
+use Rattle.class.proofs.steps.hold_later.Tie as tie
+
+one-less-requires : tie.Need-one-less-requires
+one-less-requires c κs = search needs
+
+supersede-requires : tie.Need-supersede-requires
+supersede-requires c κs = search needs
+
+go-on-requires : tie.Need-go-on-requires
+go-on-requires c κs = search needs
+
+returns : tie.Need-returns
+returns c = rw (c .before .before .before .one-less .ensures, c .before .before .supersede .ensures) at (c .go-on .ensures)
+
+pub hold-later-spec : {M : Type 1} → statement M
+hold-later-spec = tie.close (tie.spec one-less-requires supersede-requires go-on-requires returns)

@@ -1,0 +1,1 @@
+// The class report as definitions, with their laws: specs/ has all there is.
