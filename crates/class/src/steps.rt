@@ -216,6 +216,13 @@ fn take_byte(report: Report, bytes: &[u8]) -> Report
     }
 }
 
+// A step that prints nothing.
+fn silent(report: Report) -> Step
+    ensures { λ r. ⌜ (r .report ≡ report) × (r .used ≡ 0) ⌝ }
+{
+    Step { report, used: 0 }
+}
+
 fn one_less(left: u64) -> u64
     ensures { λ r. ⌜ r ≡ left - 1 ⌝ }
 {
@@ -285,11 +292,7 @@ fn print_pending(report: Report, room: &[u8], memory: &mut [u64], lines: &mut [u
     match pending {
         Pending::Nobody => {
             let tally = report.tally;
-            let next = close(report, tally);
-            Step {
-                report: next,
-                used: 0,
-            }
+            silent(close(report, tally))
         }
         Pending::Somebody(sheet) => {
             let tally = report.tally;
@@ -372,18 +375,10 @@ fn take_after(
         ⌝ }
 {
     if report.learner < sheet.learner {
-        let next = stopped(report, LOWER_LEARNER);
-        return Step {
-            report: next,
-            used: 0,
-        };
+        return silent(stopped(report, LOWER_LEARNER));
     }
     if report.learner == sheet.learner {
-        let next = hold_later(report, room, place, sheet);
-        return Step {
-            report: next,
-            used: 0,
-        };
+        return silent(hold_later(report, room, place, sheet));
     }
     let tally = report.tally;
     let shown = run_sheet(sheet, room, tally, memory, lines);
@@ -414,11 +409,7 @@ fn take_whole(
     match pending {
         Pending::Nobody => {
             let tally = report.tally;
-            let next = hold(report, place, tally);
-            Step {
-                report: next,
-                used: 0,
-            }
+            silent(hold(report, place, tally))
         }
         Pending::Somebody(sheet) => take_after(report, room, place, sheet, memory, lines),
     }
@@ -441,18 +432,10 @@ fn take_sheet(
         ⌝ }
 {
     if MOST < report.length {
-        let next = stopped(report, TOO_LONG);
-        return Step {
-            report: next,
-            used: 0,
-        };
+        return silent(stopped(report, TOO_LONG));
     }
     if end - place < report.length as usize {
-        let next = stopped(report, TOO_LONG);
-        return Step {
-            report: next,
-            used: 0,
-        };
+        return silent(stopped(report, TOO_LONG));
     }
     take_whole(report, room, place, memory, lines)
 }
@@ -478,13 +461,6 @@ fn print_last(report: Report, lines: &mut [u8]) -> Step
     let used = printing::write_last(tally, report.stop, lines);
     let next = at_stage(report, Stage::Nothing, number::start());
     Step { report: next, used }
-}
-
-// A step that prints nothing.
-fn silent(report: Report) -> Step
-    ensures { λ r. ⌜ (r .report ≡ report) × (r .used ≡ 0) ⌝ }
-{
-    Step { report, used: 0 }
 }
 
 // A step, on the bytes that were handed, which lie in the memory from a place to an end; the pending sheet lies there too. Internal:

@@ -1,5 +1,5 @@
 -- `class::steps::print_pending` meets its contract.
-use mathlib.Core.Path.{refl, ap}
+use mathlib.Core.Path.{refl, ap, _∙_}
 use Rattle.class.specs.Steps.{closing, closed}
 use Rattle.class.specs.Stepped.{moved-as, moved-still, moved-ran}
 use borrow.Author.Needs.{needs}
@@ -11,6 +11,9 @@ enum-told c = search needs
 
 close-requires : tie.Need-close-requires
 close-requires c κs = search needs
+
+silent-requires : tie.Need-silent-requires
+silent-requires c κs = search needs
 
 enum-known-pending : tie.Need-enum-known-pending
 enum-known-pending c = search needs
@@ -24,8 +27,8 @@ close-requires-2 c κs = search needs
 returns : tie.Need-returns
 unfolding closed
 returns c =
-    let a = c .before .before .before .before .before .before .before .args in
-    moved-as (ap (closed _ (a .report) _) (c .before .before .enum-told .given .1)) (moved-still _ _ _ _ (c .close .ensures) refl)
+    let a = c .before .before .before .before .before .before .before .before .args in
+    moved-as (ap (closed _ (a .report) _) (c .before .before .before .enum-told .given .1)) (moved-still _ _ _ _ (c .silent .ensures .0 ∙ c .before .close .ensures) (c .silent .ensures .1))
 
 same-length : tie.Need-same-length
 same-length c = search needs
@@ -37,7 +40,8 @@ returns-2 : tie.Need-returns-2
 unfolding closed
 returns-2 c =
     let a = c .before .before .before .before .before .before .before .before .before .before .before .before .before .before .before .before .args in
-    moved-as (ap (closed _ (a .report) _) (c .before .before .before .before .before .before .before .before .before .before .before .pending .given .1)) (moved-ran _ _ (closing (a .report)) _ (c .before .before .before .before .before .before .run-sheet .ensures) (c .close2 .ensures) refl)
+    moved-as (ap (closed _ (a .report) _) (c .before .before .before .before .before .before .before .before .before .before .before .pending .given .1))
+    (moved-ran _ _ (closing (a .report)) _ (c .before .before .before .before .before .before .run-sheet .ensures) (c .close2 .ensures) refl)
 
 pub print-pending-spec : {M : Type 1} → statement M
 print-pending-spec =
@@ -45,6 +49,7 @@ print-pending-spec =
     (tie.spec
     enum-told
     close-requires
+    silent-requires
     enum-known-pending
     run-sheet-requires
     close-requires-2

@@ -1,5 +1,5 @@
 -- `class::steps::take_whole` meets its contract.
-use mathlib.Core.Path.{refl, ap}
+use mathlib.Core.Path.{ap, _∙_}
 use Rattle.class.specs.Steps.{taken}
 use Rattle.class.specs.Stepped.{moved-as, moved-still}
 use borrow.Author.Needs.{needs}
@@ -12,6 +12,9 @@ enum-told c = search needs
 hold-requires : tie.Need-hold-requires
 hold-requires c κs = search needs
 
+silent-requires : tie.Need-silent-requires
+silent-requires c κs = search needs
+
 enum-known-pending : tie.Need-enum-known-pending
 enum-known-pending c = search needs
 
@@ -21,8 +24,8 @@ take-after-requires c κs = search needs
 returns : tie.Need-returns
 unfolding taken
 returns c =
-    let a = c .before .before .before .before .before .before .before .args in
-    moved-as (ap (taken _ (a .report) _ (a .place)) (c .before .before .enum-told .given .1)) (moved-still _ _ _ _ (c .hold .ensures) refl)
+    let a = c .before .before .before .before .before .before .before .before .args in
+    moved-as (ap (taken _ (a .report) _ (a .place)) (c .before .before .before .enum-told .given .1)) (moved-still _ _ _ _ (c .silent .ensures .0 ∙ c .before .hold .ensures) (c .silent .ensures .1))
 
 same-length : tie.Need-same-length
 same-length c = search needs
@@ -42,6 +45,7 @@ take-whole-spec =
     (tie.spec
     enum-told
     hold-requires
+    silent-requires
     enum-known-pending
     take-after-requires
     returns
