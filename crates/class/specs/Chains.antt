@@ -112,6 +112,11 @@ module _ (file : List ℕ) where
   unfolding rank
   stepsLeft at r = 5 * (length file - at) + rank (r .stage)
 
+  -- at a later place no more are left, at the same stage
+  pub no-more : (at next : ℕ) (r q : Report) → at ≤ next → q .stage ≡ r .stage → stepsLeft next q ≤ stepsLeft at r
+  unfolding stepsLeft
+  no-more at next r q h e = omega (arith, ap rank e)
+
   module _ (at : ℕ) (r : Report) (s : Session) where
     -- fewer steps are left than at a stage
     abbrev Fewer : List ℕ → Report → Stage → Type 0

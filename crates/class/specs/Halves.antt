@@ -21,7 +21,7 @@ use Rattle.number.specs.Number.{limit32}
 use Rattle.number.specs.Fed.{fed}
 use Rattle.turns.specs.Places.{least}
 use Rattle.class_rules.specs.Report.{mostBytes, fits}
-use Rattle.class.specs.Steps.{going, valued, numbered, byte, Did, sheetOf, pendingIn, closed, superseded, after, taken, sheetTaken, doesAt, does}
+use Rattle.class.specs.Steps.{going, valued, numbered, byte, Did, turnedIn, sheetOf, pendingIn, closed, superseded, after, taken, sheetTaken, doesAt, does}
 
 -- where the half begins in which no pending sheet lies
 unfoldable pub freeHalf : Pending → ℕ
@@ -98,7 +98,7 @@ module _ (room : List ℕ) (at : ℕ) (bytes : List ℕ) (r : Report) (s : Sessi
   Halved : Did → Type 0
   Halved d = InHalf (d .report .pending)
 
-  superseded-half : (p : Turned) → r .length ≤ mostBytes → InHalf (Somebody p) → InHalf (Somebody (superseded room r at p))
+  superseded-half : (p : Turned) → r .length ≤ mostBytes → InHalf (Somebody p) → InHalf (Somebody (superseded room p (turnedIn r at)))
   unfolding superseded
   superseded-half p few i =
       let stays : least (p .place) (length room) ≡ p .place = choose-yes (p .place ≼ length room) (p .place) (length room) (inside (i .0)) in

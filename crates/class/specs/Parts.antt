@@ -26,6 +26,7 @@ use Rattle.class.specs.declared.Stage.the-variants.{Nothing}
 use Rattle.class.specs.Standing.{reportFrom}
 use Rattle.class.specs.Steps.{asks, handed}
 use Rattle.class.specs.Stepped.{Took}
+use Rattle.class.specs.Passing.{Leads, Passed}
 use Rattle.class.specs.Chains.{state, stepOf, said, onward, Went, still, further, went-prints, stepsLeft, steps-fewer}
 
 -- "Check 1": a line of a report takes at most this many bytes
@@ -136,6 +137,20 @@ going-first file at r memory lines e h = record {
 module _ (file : List ℕ) (at : ℕ) (r : Report) (before memory lines now-lines : List ℕ) (place : ℕ) (q : Report) (used : ℕ)
     (g : Going file at r before memory lines now-lines place q used)
   where
+    -- turns that were passed over
+    pub going-along : (next : ℕ) (p : Report) → Passed file place q next p → Going file at r before memory lines now-lines next p used
+    unfolding Leads
+    going-along next p w = record {
+      text = g .text;
+      went = w .leads _ _ _ (g .went);
+      line = g .line;
+      session = g .session;
+      keeps = g .keeps;
+      inside = w .inside;
+      fits = g .fits;
+      long = g .long;
+    }
+
     -- one step more
     pub going-on : (memory′ lines′ : List ℕ) (p : Part) → used + reportRoom ≤ length now-lines → length lines′ ≡ length now-lines
         → SteppedOn file place q memory memory′ now-lines lines′ used p

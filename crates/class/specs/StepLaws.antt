@@ -36,10 +36,10 @@ use Rattle.class.specs.Steps.{begun, turned, stopping, entryOrLine, goin
 
 module _ (file : List ℕ) where
   -- with so many entries left, a pending sheet and a tally, the lines of those and the last line are printed
-  going-text : (at : ℕ) (r : Report) (left : ℕ) (p : Pending) (t : Tally) → reportFrom file at (going r left p t) ≡ entriesText file left at (pendingIn file p) t
+  going-text : (at left : ℕ) (p : Pending) (t : Tally) → reportFrom file at (going left p t) ≡ entriesText file left at (pendingIn file p) t
   unfolding reportFrom going entryOrLine entriesText
-  going-text at r zero p t = refl
-  going-text at r (suc left) p t =
+  going-text at zero p t = refl
+  going-text at (suc left) p t =
       let one : suc left - 1 ≡ left = omega arith in
       ap (λ (n : ℕ). learnerText file (entriesText file n) (pendingIn file p) t (feeds limit32 start (drop at file) at)) one
       ∙ ap (learnerText file (entriesText file left) (pendingIn file p) t) (feeds-reads limit32 file at)
@@ -73,10 +73,23 @@ module _ (file : List ℕ) where
       go (Whole v) = x .whole v (at + 1)
       go Bad = stop-prints r 4 _ ∙ sym (x .bad (at + 1))
 
+  -- Of two entries of one learner the one that supersedes lies where it is said to.
+  superseded-is : (p e : Turned) → entryOf file (superseded file p e) ≡ superseding (entryOf file p) (entryOf file e)
+  unfolding superseded superseding
+  superseded-is p e = go (decide (p .turn ≼ e .turn))
+    where
+      go : Case (p .turn ≼ e .turn) → entryOf file (superseded file p e) ≡ superseding (entryOf file p) (entryOf file e)
+      go (it-does h) =
+          ap (entryOf file) (choose-yes (p .turn ≼ e .turn) e _ h) ∙ sym (choose-yes (p .turn ≼ e .turn) (entryOf file e) (entryOf file p) h)
+      go (it-does-not n) =
+          ap (entryOf file) (choose-no (p .turn ≼ e .turn) e _ n)
+          ∙ ap (λ (l : List ℕ). record { learner = p .learner; turn = p .turn; sheet = take (p .length) l }) (drop-least (p .place) file)
+          ∙ sym (choose-no (p .turn ≼ e .turn) (entryOf file e) (entryOf file p) n)
+
   module _ (r : Report) where
     count-reads : Reads r Count (countText file (pendingIn file (r .pending)) (r .tally))
     unfolding countText met valued numbered reportFrom
-    count-reads = record { cut = refl; bad = λ n. refl; whole = λ v n. going-text n r v (r .pending) (r .tally); more = λ next n. refl }
+    count-reads = record { cut = refl; bad = λ n. refl; whole = λ v n. going-text n v (r .pending) (r .tally); more = λ next n. refl }
 
     learner-reads : Reads r Learner (learnerText file (entriesText file (r .left - 1)) (pendingIn file (r .pending)) (r .tally))
     unfolding learnerText met valued numbered reportFrom
@@ -100,20 +113,6 @@ module _ (file : List ℕ) where
     unfolding lengthText met valued numbered reportFrom
     length-reads = record { cut = refl; bad = λ n. refl; whole = λ v n. refl; more = λ next n. refl }
 
-    -- Of two entries of one learner the one that supersedes lies where it is said to.
-    superseded-is : (at : ℕ) (p : Turned) → entryOf file (superseded file r at p) ≡ superseding (entryOf file p) (entryOf file (turnedIn r at))
-    unfolding superseded superseding
-    superseded-is at p = go (decide (p .turn ≼ r .turn))
-      where
-        go : Case (p .turn ≼ r .turn) → entryOf file (superseded file r at p) ≡ superseding (entryOf file p) (entryOf file (turnedIn r at))
-        go (it-does h) =
-            ap (entryOf file) (choose-yes (p .turn ≼ r .turn) (turnedIn r at) _ h)
-            ∙ sym (choose-yes (p .turn ≼ r .turn) (entryOf file (turnedIn r at)) (entryOf file p) h)
-        go (it-does-not n) =
-            ap (entryOf file) (choose-no (p .turn ≼ r .turn) (turnedIn r at) _ n)
-            ∙ ap (λ (l : List ℕ). record { learner = p .learner; turn = p .turn; sheet = take (p .length) l }) (drop-least (p .place) file)
-            ∙ sym (choose-no (p .turn ≼ r .turn) (entryOf file (turnedIn r at)) (entryOf file p) n)
-
     -- what an entry's sheet that is all there prints, with a pending entry before it, and what comes behind it
     followText : List Entry → Entry → ℕ → List ℕ
     followText pending e next =
@@ -132,19 +131,19 @@ module _ (file : List ℕ) where
             rw (fails (p .learner ≼ r .learner) n) (stop-prints r 23 next ∙ ap (λ (q : Pending). endText (pendingIn file q) (r .tally) 23) e)
         go (it-does h) (it-does same) =
             rw (passes (p .learner ≼ r .learner) h, passes (p .learner ≐ r .learner) same)
-            (going-text next r (r .left - 1) (Somebody (superseded file r at p)) (r .tally)
-            ∙ ap (λ (x : Entry). entriesText file (r .left - 1) next (x ∷ []) (r .tally)) (superseded-is at p))
+            (going-text next (r .left - 1) (Somebody (superseded file p (turnedIn r at))) (r .tally)
+            ∙ ap (λ (x : Entry). entriesText file (r .left - 1) next (x ∷ []) (r .tally)) (superseded-is p (turnedIn r at)))
         go (it-does h) (it-does-not other) =
             let counts = countsOf (sheetOf file p) in
             let line = entryLine (p .learner) (p .turn) counts in
             rw (passes (p .learner ≼ r .learner) h, fails (p .learner ≐ r .learner) other)
-            (ap (λ (l : List ℕ). line ++ l) (going-text next r (r .left - 1) (Somebody (turnedIn r at)) (raise (r .tally) counts)) ∙ sym (append-assoc line [] _))
+            (ap (λ (l : List ℕ). line ++ l) (going-text next (r .left - 1) (Somebody (turnedIn r at)) (raise (r .tally) counts)) ∙ sym (append-assoc line [] _))
 
     taken-prints : (s : Session) (at next : ℕ) (p : Pending) → r .pending ≡ p
         → Prints next (taken file r s at p) (followText (pendingIn file p) (entryOf file (turnedIn r at)) next)
     unfolding taken followText learnerOf printed kept entryLines raisedBy
     taken-prints s at next Nobody e =
-        going-text next r (r .left - 1) (Somebody (turnedIn r at)) (r .tally) ∙ sym (choose-yes (0 ≼ r .learner) _ (endText [] (r .tally) 23) (omega arith))
+        going-text next (r .left - 1) (Somebody (turnedIn r at)) (r .tally) ∙ sym (choose-yes (0 ≼ r .learner) _ (endText [] (r .tally) 23) (omega arith))
     taken-prints s at next (Somebody p) e = after-prints s at next p e
 
     -- the pending sheet's line, if there is one, and the last line

@@ -109,15 +109,15 @@ unfolding entryOrLine
 entry-next zero n = absurd (n refl)
 entry-next (suc left) n = refl
 
--- A report with so many entries left, a pending sheet and a tally.
-unfoldable pub going : Report → ℕ → Pending → Tally → Report
-going r left pending tally = record {
+-- A report with so many entries left, a pending sheet and a tally; of the next entry nothing is read.
+unfoldable pub going : ℕ → Pending → Tally → Report
+going left pending tally = record {
   stage = entryOrLine left;
   number = start;
   left = left;
-  learner = r .learner;
-  turn = r .turn;
-  length = r .length;
+  learner = 0;
+  turn = 0;
+  length = 0;
   stop = 0;
   pending = pending;
   tally = tally;
@@ -139,7 +139,7 @@ entryTo r stage learner turn length = record {
 
 -- The report after a number that was read whole.
 unfoldable pub valued : Report → Stage → ℕ → Report
-valued r Count v = going r v (r .pending) (r .tally)
+valued r Count v = going v (r .pending) (r .tally)
 valued r Learner v = entryTo r Turn v (r .turn) (r .length)
 valued r Turn v = entryTo r Length (r .learner) v (r .length)
 valued r Length v = entryTo r Sheet (r .learner) (r .turn) v
@@ -188,7 +188,7 @@ closing r t = record {
 
 -- The report with this entry's sheet pending.
 abbrev pub holding : Report → ℕ → Tally → Report
-holding r at t = going r (r .left - 1) (Somebody (turnedIn r at)) t
+holding r at t = going (r .left - 1) (Somebody (turnedIn r at)) t
 
 -- A sheet that lies in a memory, the entry that it is, and the pending one as a list of one or of none.
 module _ (room : List ℕ) where
@@ -213,19 +213,17 @@ module _ (room : List ℕ) where
   closed r s Nobody = did (closing r (r .tally)) [] s
   closed r s (Somebody p) = ran p (closing r) (r .tally)
 
-  -- Of two sheets of one learner, the pending one and this entry's, the one that supersedes.
-  unfoldable pub superseded : Report → ℕ → Turned → Turned
-  superseded r at p =
-      choose (p .turn ≼ r .turn)
-      (turnedIn r at)
-      (record { learner = p .learner; turn = p .turn; place = least (p .place) (length room); length = p .length })
+  -- Of two sheets of one learner, the pending one and a later entry's, the one that supersedes.
+  unfoldable pub superseded : Turned → Turned → Turned
+  superseded p e =
+      choose (p .turn ≼ e .turn) e (record { learner = p .learner; turn = p .turn; place = least (p .place) (length room); length = p .length })
 
   -- An entry's sheet where somebody is pending: 23, another turn of that learner, or another learner.
   unfoldable pub after : Report → Session → ℕ → Turned → Did
   after r s at p =
       choose (p .learner ≼ r .learner)
       (choose (p .learner ≐ r .learner)
-      (did (going r (r .left - 1) (Somebody (superseded r at p)) (r .tally)) [] s)
+      (did (going (r .left - 1) (Somebody (superseded p (turnedIn r at))) (r .tally)) [] s)
       (ran p (holding r at) (r .tally)))
       (did (stopping r 23) [] s)
 

@@ -2,6 +2,7 @@
 // the file and is handed them, so that a file of any length is reported from memory for two sheets.
 mod halves;
 mod parts;
+mod passing;
 mod printing;
 mod steps;
 

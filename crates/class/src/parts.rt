@@ -2,6 +2,7 @@
 use crate::Part;
 use crate::ROOM;
 use crate::Report;
+use crate::passing;
 use crate::steps;
 use rules::refusals;
 ghost use Prim.Native.Nat.{_+_, _≤_};
@@ -58,6 +59,9 @@ fn report_from(
     let mut used: usize = 0;
     let mut now = report;
     while ROOM <= lines.len() - used {
+        let along = passing::pass_turns(file, at, now);
+        at = along.place;
+        now = along.report;
         if steps::is_over(now) {
             return Part {
                 refused: 0,

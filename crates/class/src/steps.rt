@@ -22,7 +22,7 @@ ghost use Rattle.class.specs.Steps.{begun, isOver, asks, fedTo, turned, 
 ghost use Rattle.class.specs.Stepped.{Told, Moved, Ran, Took};
 
 // The longest sheet, as lengths are read.
-const MOST: u64 = MOST_BYTES as u64;
+pub const MOST: u64 = MOST_BYTES as u64;
 
 // The refusal of a length, and of a learner lower than the one before.
 const TOO_LONG: u64 = 22;
@@ -132,9 +132,9 @@ fn stopped(report: Report, n: u64) -> Report
     }
 }
 
-// A report with so many entries left, a pending sheet and a tally.
-fn go_on(report: Report, left: u64, pending: Pending, tally: Tally) -> Report
-    ensures { λ r. ⌜ r ≡ going report left pending tally ⌝ }
+// A report with so many entries left, a pending sheet and a tally; of the next entry nothing is read.
+pub fn go_on(left: u64, pending: Pending, tally: Tally) -> Report
+    ensures { λ r. ⌜ r ≡ going left pending tally ⌝ }
 {
     let stage = entry_or_line(left);
     let number = number::start();
@@ -142,9 +142,9 @@ fn go_on(report: Report, left: u64, pending: Pending, tally: Tally) -> Report
         stage,
         number,
         left,
-        learner: report.learner,
-        turn: report.turn,
-        length: report.length,
+        learner: 0,
+        turn: 0,
+        length: 0,
         stop: 0,
         pending,
         tally,
@@ -188,7 +188,7 @@ fn with_value(report: Report, v: u64) -> Report
     let pending = report.pending;
     let tally = report.tally;
     match stage {
-        Stage::Count => go_on(report, v, pending, tally),
+        Stage::Count => go_on(v, pending, tally),
         Stage::Learner => with_entry(report, Stage::Turn, v, report.turn, report.length),
         Stage::Turn => with_entry(report, Stage::Length, report.learner, v, report.length),
         Stage::Length => with_entry(report, Stage::Sheet, report.learner, report.turn, v),
@@ -325,22 +325,27 @@ fn hold(report: Report, place: usize, tally: Tally) -> Report
 {
     let left = one_less(report.left);
     let sheet = turned_in(report, place);
-    go_on(report, left, Pending::Somebody(sheet), tally)
+    go_on(left, Pending::Somebody(sheet), tally)
 }
 
-// The one that supersedes, of the pending sheet and this entry's.
-fn supersede(report: Report, room: &[u8], place: usize, sheet: Turned) -> Turned
-    requires { ⌜ place ≤ length (now room) ⌝ }
-    ensures { λ r. ⌜ r ≡ superseded (now (room .entry)) report place sheet ⌝ }
+// The one that supersedes, of the pending sheet and a later entry's.
+pub fn supersede(room: &[u8], sheet: Turned, later: Turned) -> Turned
+    requires { ⌜ later .place ≤ length (now room) ⌝ }
+    ensures { λ r. ⌜ r ≡ superseded (now (room .entry)) sheet later ⌝ }
 {
-    let from = turns::superseding_place(room, sheet.place, sheet.turn, place, report.turn);
-    if sheet.turn <= report.turn {
-        return turned_in(report, from);
+    let place = turns::superseding_place(room, sheet.place, sheet.turn, later.place, later.turn);
+    if sheet.turn <= later.turn {
+        return Turned {
+            learner: later.learner,
+            turn: later.turn,
+            place,
+            length: later.length,
+        };
     }
     Turned {
         learner: sheet.learner,
         turn: sheet.turn,
-        place: from,
+        place,
         length: sheet.length,
     }
 }
@@ -349,13 +354,13 @@ fn supersede(report: Report, room: &[u8], place: usize, sheet: Turned) -> Turned
 fn hold_later(report: Report, room: &[u8], place: usize, sheet: Turned) -> Report
     requires { ⌜ place ≤ length (now room) ⌝ }
     ensures { λ r. ⌜
-        r ≡ going report (report .left - 1) (Pending.Somebody (superseded (now (room .entry)) report place sheet)) (report .tally)
+        r ≡ going (report .left - 1) (Pending.Somebody (superseded (now (room .entry)) sheet (turnedIn report place))) (report .tally)
         ⌝ }
 {
     let left = one_less(report.left);
-    let later = supersede(report, room, place, sheet);
+    let later = supersede(room, sheet, turned_in(report, place));
     let tally = report.tally;
-    go_on(report, left, Pending::Somebody(later), tally)
+    go_on(left, Pending::Somebody(later), tally)
 }
 
 // Takes an entry's sheet where somebody is pending.
