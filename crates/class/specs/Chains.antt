@@ -117,6 +117,11 @@ module _ (file : List ℕ) where
   unfolding stepsLeft
   no-more at next r q h e = omega (arith, ap rank e)
 
+  -- nor at a sheet behind an entry's numbers
+  pub sheet-fewer : (at next : ℕ) (r q : Report) → at < next → next ≤ length file → r .stage ≡ Learner → q .stage ≡ Sheet → stepsLeft next q ≤ stepsLeft at r
+  unfolding stepsLeft rank
+  sheet-fewer at next r q h inside e f = omega (arith, ap rank e, ap rank f)
+
   module _ (at : ℕ) (r : Report) (s : Session) where
     -- fewer steps are left than at a stage
     abbrev Fewer : List ℕ → Report → Stage → Type 0

@@ -1,4 +1,4 @@
--- Further turns of the learner whose sheet is pending: the steps over them are passed at once.
+-- Entries whose numbers are read at once, and further turns of the learner whose sheet is pending: the steps over them are passed.
 use Prim.Native.Nat.{ℕ, zero, suc, _+_, _-_, _≤_, _<_}
 use mathlib.Core.List.{List, [], _∷_, _++_, append-nil}
 use mathlib.Core.Bool.{true, false}
@@ -20,31 +20,30 @@ use Rattle.session.specs.Table.{Session}
 use Rattle.rules.specs.Formula.{choose, holds, Formula._≐_, Formula._≼_}
 use Rattle.rules.specs.FormulaLaws.{Case, decide, passes, fails, choose-yes, choose-case, Case.it-does, Case.it-does-not}
 use Rattle.sheet_counts.specs.declared.Tally.{Tally}
+use Rattle.sheet_counts.specs.Answers.{noCounts}
 use Rattle.class_rules.specs.Report.{mostBytes, met, fits, sheetAt}
 use Rattle.class.specs.declared.Report.{Report}
-use Rattle.class.specs.declared.passing.Another.{Another}
-use Rattle.class.specs.declared.passing.Another.the-variants.{Further, Other}
+use Rattle.class.specs.declared.passing.Header.{Header}
+use Rattle.class.specs.declared.passing.Header.the-variants.{Numbers, Other}
 use Rattle.class.specs.declared.Turned.{Turned}
 use Rattle.class.specs.declared.Pending.{Pending}
 use Rattle.class.specs.declared.Pending.the-variants.{Nobody, Somebody}
 use Rattle.class.specs.declared.Stage.{Stage}
 use Rattle.class.specs.declared.Stage.the-variants.{Learner, Turn, Length, Sheet}
 use Rattle.class.specs.Steps.{entryOrLine, entry-next, going, entryTo, valued, numbered, byte, fedTo, Did, did, turnedIn, superseded, after, taken, sheetTaken, asksAt, asks, doesAt, does, handed}
-use Rattle.class.specs.Chains.{State, state, onward, stepOf, Went, further, stepsLeft, no-more}
+use Rattle.class.specs.Chains.{State, state, onward, stepOf, Went, further, stepsLeft, no-more, sheet-fewer}
 
--- What stands at a place, if it is another turn of a learner: its numbers can be read, and all of its sheet is there.
-unfoldable pub wholeTurn : List ℕ → ℕ → ℕ → ℕ → ℕ → Another
-wholeTurn file learner turn size at =
-    choose (fits file at size) (Further (record { learner = learner; turn = turn; place = at; length = size }) (at + size)) Other
+-- The numbers of the entry at a place, from its length on, from its turn on and from its learner on: the sheet as it was turned in,
+-- if they can be read.
+unfoldable pub lengthAt : List ℕ → ℕ → ℕ → ℕ → Header
+lengthAt file learner turn at =
+    met (readAt limit32 file at) (λ _. Other) (λ size next. Numbers (record { learner = learner; turn = turn; place = next; length = size }))
 
-unfoldable pub furtherLength : List ℕ → ℕ → ℕ → ℕ → Another
-furtherLength file learner turn at = met (readAt limit32 file at) (λ _. Other) (wholeTurn file learner turn)
+unfoldable pub turnAt : List ℕ → ℕ → ℕ → Header
+turnAt file learner at = met (readAt limit32 file at) (λ _. Other) (lengthAt file learner)
 
-unfoldable pub furtherTurn : List ℕ → ℕ → ℕ → Another
-furtherTurn file learner at = met (readAt limit32 file at) (λ _. Other) (furtherLength file learner)
-
-unfoldable pub anotherTurn : List ℕ → ℕ → ℕ → Another
-anotherTurn file learner at = met (readAt limit32 file at) (λ _. Other) (λ who next. choose (who ≐ learner) (furtherTurn file learner next) Other)
+unfoldable pub headerAt : List ℕ → ℕ → Header
+headerAt file at = met (readAt limit32 file at) (λ _. Other) (turnAt file)
 
 module _ (file : List ℕ) where
   -- Steps that print nothing lead from one place and report to others.
@@ -124,102 +123,73 @@ module _ (file : List ℕ) where
   number-leads : (stage : Stage) → Takes stage → (at : ℕ) (r : Report) (v n : ℕ) → readAt limit32 file at ≡ Value v n → Leads at (fedTo r stage start) n (valued r stage v)
   number-leads stage t at r v n e = feeds-leads stage t (drop at file) at r start v n refl (feeds-reads limit32 file at ∙ e)
 
-  -- A turn whose numbers were read, of the pending learner: the sheet that supersedes is pending behind it.
-  abbrev atSheet : ℕ → Turned → Tally → ℕ → ℕ → Report
-  atSheet l p t turn size =
-      record { stage = Sheet; number = start; left = suc l; learner = p .learner; turn = turn; length = size; stop = 0; pending = Somebody p; tally = t }
+  -- Numbers that can be read lead to the entry's sheet.
+  module _ (at l : ℕ) (q : Pending) (t : Tally) where
+    abbrev from : Report
+    from = going (suc l) q t
 
-  abbrev furtherOf : Turned → ℕ → ℕ → ℕ → Turned
-  furtherOf p turn size at = record { learner = p .learner; turn = turn; place = at; length = size }
+    unfoldable pub Heads : Header → Type 0
+    Heads Other = Unit {0}
+    Heads (Numbers e) = Leads at from (e .place) (entryTo from Sheet (e .learner) (e .turn) (e .length)) × (at < e .place) × (e .place ≤ length file)
 
-  sheet-leads : (l : ℕ) (p : Turned) (t : Tally) (turn size at : ℕ) → holds (fits file at size)
-      → Leads at (atSheet l p t turn size) (at + size) (going l (Somebody (superseded file p (furtherOf p turn size at))) t)
-  unfolding asksAt doesAt sheetTaken taken after
-  sheet-leads l p t turn size at h =
-      let r = atSheet l p t turn size in
+    length-heads : (learner turn b : ℕ) → at ≤ b → Leads at from b (entryTo from Length learner turn 0) → Heads (lengthAt file learner turn b)
+    unfolding Heads lengthAt met valued
+    length-heads learner turn b up w = go (readAt limit32 file b) refl
+      where
+        here : Report
+        here = entryTo from Length learner turn 0
+
+        go : (r : Reading) → readAt limit32 file b ≡ r
+            → Heads (met r (λ _. Other) (λ size next. Numbers (record { learner = learner; turn = turn; place = next; length = size })))
+        go (Value size c) e =
+            let n = value-next limit32 file b size c e in
+            (leads-on at b c from here (entryTo from Sheet learner turn size) w (number-leads Length length-takes b here size c e), omega (arith, n .1), n .2)
+        go (BadNumber n) e = tt
+        go CutShort e = tt
+
+    turn-heads : (learner a : ℕ) → at ≤ a → Leads at from a (entryTo from Turn learner 0 0) → Heads (turnAt file learner a)
+    unfolding Heads turnAt met valued
+    turn-heads learner a up w = go (readAt limit32 file a) refl
+      where
+        here : Report
+        here = entryTo from Turn learner 0 0
+
+        go : (r : Reading) → readAt limit32 file a ≡ r → Heads (met r (λ _. Other) (lengthAt file learner))
+        go (Value turn b) e =
+            let n = value-next limit32 file a turn b e in
+            length-heads learner turn b (omega (arith, n .1))
+            (leads-on at a b from here (entryTo from Length learner turn 0) w (number-leads Turn turn-takes a here turn b e))
+        go (BadNumber n) e = tt
+        go CutShort e = tt
+
+    pub heads : Heads (headerAt file at)
+    unfolding Heads headerAt met going entryOrLine valued
+    heads = go (readAt limit32 file at) refl
+      where
+        go : (r : Reading) → readAt limit32 file at ≡ r → Heads (met r (λ _. Other) (turnAt file))
+        go (Value learner a) e =
+            let n = value-next limit32 file at learner a e in
+            turn-heads learner a (omega (arith, n .1)) (number-leads Learner learner-takes at from learner a e)
+        go (BadNumber n) e = tt
+        go CutShort e = tt
+
+  -- The sheet of another turn of the pending learner: the one that supersedes is pending behind it.
+  sheet-leads : (l : ℕ) (p e : Turned) (t : Tally) → e .learner ≡ p .learner → holds (fits file (e .place) (e .length))
+      → Leads (e .place) (entryTo (going (suc l) (Somebody p) t) Sheet (e .learner) (e .turn) (e .length)) (e .place + e .length)
+      (going l (Somebody (superseded file p e)) t)
+  unfolding asksAt doesAt sheetTaken taken after going
+  sheet-leads l p e t same h =
+      let at = e .place in
+      let size = e .length in
+      let r = entryTo (going (suc l) (Somebody p) t) Sheet (e .learner) (e .turn) size in
       let bytes = sheetAt file at size in
-      let next = going l (Somebody (superseded file p (furtherOf p turn size at))) t in
+      let next = going l (Somebody (superseded file p e)) t in
       let n : length bytes ≡ size = length-take-le size (drop at file) (h .1) in
       let handed-is : handed file at r ≡ bytes = ap (λ (k : ℕ). take k (drop at file)) (choose-yes (size ≼ mostBytes) size 0 (h .0)) in
       let one : suc l - 1 ≡ l = omega arith in
       let does-is : (s : Session) → does file at bytes r s ≡ did next [] s = λ s.
-      rw (passes (fits bytes 0 size) (h .0, omega arith), passes (p .learner ≼ p .learner) (omega arith), passes (p .learner ≐ p .learner) refl, one) refl in
+      rw (passes (fits bytes 0 size) (h .0, omega arith), passes (p .learner ≼ e .learner) (omega arith), passes (p .learner ≐ e .learner) (sym same), one) refl in
       subst (λ (k : ℕ). Leads at r (at + k) next) n (step-leads at r bytes next handed-is does-is)
-
-  -- what an answer leads to
-  unfoldable pub Follows : ℕ → ℕ → Turned → Tally → Another → Type 0
-  Follows at l p t Other = Unit {0}
-  Follows at l p t (Further e end) =
-      Leads at (going (suc l) (Somebody p) t) end (going l (Somebody (superseded file p e)) t)
-      × (e .learner ≡ p .learner) × (e .place ≤ length file) × (end ≤ length file) × (at ≤ end)
-
-  module _ (at l : ℕ) (p : Turned) (t : Tally) where
-    -- the entry from its length on, from its turn on, and from its learner on
-    abbrev from : Report
-    from = going (suc l) (Somebody p) t
-
-    abbrev Found : Another → Type 0
-    Found = Follows at l p t
-
-    whole-follows : (turn size c : ℕ) → at ≤ c → c ≤ length file → Leads at from c (atSheet l p t turn size) → Found (wholeTurn file (p .learner) turn size c)
-    unfolding Follows wholeTurn
-    whole-follows turn size c up inside w =
-        choose-case Found (fits file c size) _ _
-        (λ h. (
-          leads-on at c (c + size) from (atSheet l p t turn size) _ w (sheet-leads l p t turn size c h),
-          refl,
-          inside,
-          omega (arith, h .1, length-drop c file),
-          omega arith,
-        ))
-        (λ _. tt)
-
-    length-follows : (turn b : ℕ) → at ≤ b → b ≤ length file → Leads at from b (entryTo from Length (p .learner) turn 0)
-        → Found (furtherLength file (p .learner) turn b)
-    unfolding Follows furtherLength met going entryOrLine valued
-    length-follows turn b up inside w = go (readAt limit32 file b) refl
-      where
-        here : Report
-        here = entryTo from Length (p .learner) turn 0
-
-        go : (r : Reading) → readAt limit32 file b ≡ r → Found (met r (λ _. Other) (wholeTurn file (p .learner) turn))
-        go (Value size c) e =
-            let n = value-next limit32 file b size c e in
-            whole-follows turn size c (omega (arith, n .1)) (n .2)
-            (leads-on at b c from here (atSheet l p t turn size) w (number-leads Length length-takes b here size c e))
-        go (BadNumber n) e = tt
-        go CutShort e = tt
-
-    turn-follows : (a : ℕ) → at ≤ a → a ≤ length file → Leads at from a (entryTo from Turn (p .learner) 0 0)
-        → Found (furtherTurn file (p .learner) a)
-    unfolding Follows furtherTurn met going entryOrLine valued
-    turn-follows a up inside w = go (readAt limit32 file a) refl
-      where
-        here : Report
-        here = entryTo from Turn (p .learner) 0 0
-
-        go : (r : Reading) → readAt limit32 file a ≡ r → Found (met r (λ _. Other) (furtherLength file (p .learner)))
-        go (Value turn b) e =
-            let n = value-next limit32 file a turn b e in
-            length-follows turn b (omega (arith, n .1)) (n .2)
-            (leads-on at a b from here (entryTo from Length (p .learner) turn 0) w (number-leads Turn turn-takes a here turn b e))
-        go (BadNumber n) e = tt
-        go CutShort e = tt
-
-    -- The theorem: another turn of the pending learner leads on, with the sheet that supersedes pending.
-    pub follows : Found (anotherTurn file (p .learner) at)
-    unfolding Follows anotherTurn met going entryOrLine valued
-    follows = go (readAt limit32 file at) refl
-      where
-        go : (r : Reading) → readAt limit32 file at ≡ r → Found (met r (λ _. Other) (λ who a. choose (who ≐ p .learner) (furtherTurn file (p .learner) a) Other))
-        go (Value who a) e =
-            let n = value-next limit32 file at who a e in
-            choose-case Found (who ≐ p .learner) _ _
-            (λ same. turn-follows a (omega (arith, n .1)) (n .2)
-            (subst (λ (k : ℕ). Leads at from a (entryTo from Turn k 0 0)) same (number-leads Learner learner-takes at from who a e)))
-            (λ _. tt)
-        go (BadNumber n) e = tt
-        go CutShort e = tt
 
   -- Steps that were passed over at once: they print nothing, and fewer are left.
   pub record Passed (at : ℕ) (r : Report) (next : ℕ) (q : Report) : Type 0 where
@@ -231,24 +201,53 @@ module _ (file : List ℕ) where
   unfolding Leads
   passed-none at r h = record { leads = λ x bytes s w. w; inside = h; fewer = omega arith }
 
+  pub passed-then : (at b c : ℕ) (r p q : Report) → Passed at r b p → Passed b p c q → Passed at r c q
+  passed-then at b c r p q v w = record {
+    leads = leads-on at b c r p q (v .leads) (w .leads);
+    inside = w .inside;
+    fewer = omega (arith, v .fewer, w .fewer);
+  }
+
   -- One turn more.
-  pub passed-more : (at : ℕ) (r : Report) (next more end : ℕ) (p e : Turned) (t : Tally) → 1 < more → Passed at r next (going more (Somebody p) t)
-      → anotherTurn file (p .learner) next ≡ Further e end
-      → (e .place ≤ length file) × Passed at r end (going (more - 1) (Somebody (superseded file p e)) t)
-  unfolding Follows going entryOrLine
-  passed-more at r next zero end p e t h w is = absurd (omega arith)
-  passed-more at r next (suc zero) end p e t h w is = absurd (omega arith)
-  passed-more at r next (suc (suc l)) end p e t h w is =
-      let f = subst (Follows next (suc l) p t) is (follows next (suc l) p t) in
+  pub passed-more : (at : ℕ) (r : Report) (next more : ℕ) (p e : Turned) (t : Tally) → 1 < more → Passed at r next (going more (Somebody p) t)
+      → headerAt file next ≡ Numbers e → e .learner ≡ p .learner → holds (fits file (e .place) (e .length))
+      → Passed at r (e .place + e .length) (going (more - 1) (Somebody (superseded file p e)) t)
+  unfolding Heads going entryOrLine
+  passed-more at r next zero p e t h w is same f = absurd (omega arith)
+  passed-more at r next (suc zero) p e t h w is same f = absurd (omega arith)
+  passed-more at r next (suc (suc l)) p e t h w is same f =
+      let n = subst (Heads next (suc l) (Somebody p) t) is (heads next (suc l) (Somebody p) t) in
       let was = going (suc (suc l)) (Somebody p) t in
       let q = going (suc l) (Somebody (superseded file p e)) t in
+      let end = e .place + e .length in
       let one : suc (suc l) - 1 ≡ suc l = omega arith in
+      let leads = leads-on next (e .place) end was _ q (n .0) (sheet-leads (suc l) p e t same f) in
       let passed : Passed at r end q = record {
-        leads = leads-on at next end r was q (w .leads) (f .0);
-        inside = f .3;
-        fewer = omega (arith, w .fewer, no-more file next end was q (f .4) refl);
+        leads = leads-on at next end r was q (w .leads) leads;
+        inside = omega (arith, f .1, length-drop (e .place) file, n .2);
+        fewer = omega (arith, w .fewer, no-more file next end was q (omega (arith, n .1)) refl);
       } in
-      (f .2, subst (λ (k : ℕ). Passed at r end (going k (Somebody (superseded file p e)) t)) (sym one) passed)
+      subst (λ (k : ℕ). Passed at r end (going k (Somebody (superseded file p e)) t)) (sym one) passed
+
+  -- where its numbers were read its sheet lies inside the file
+  pub header-inside : (at : ℕ) (e : Turned) → headerAt file at ≡ Numbers e → e .place ≤ length file
+  unfolding Heads
+  header-inside at e is = subst (Heads at 0 Nobody noCounts) is (heads at 0 Nobody noCounts) .2
+
+  -- The numbers of an entry.
+  pub passed-numbers : (at : ℕ) (r : Report) (next left : ℕ) (q : Pending) (t : Tally) (e : Turned) → 1 ≤ left → Passed at r next (going left q t)
+      → headerAt file next ≡ Numbers e → Passed at r (e .place) (entryTo (going left q t) Sheet (e .learner) (e .turn) (e .length))
+  unfolding Heads going entryOrLine
+  passed-numbers at r next zero q t e h w is = absurd (omega arith)
+  passed-numbers at r next (suc l) q t e h w is =
+      let n = subst (Heads next l q t) is (heads next l q t) in
+      let was = going (suc l) q t in
+      let there = entryTo was Sheet (e .learner) (e .turn) (e .length) in
+      record {
+        leads = leads-on at next (e .place) r was there (w .leads) (n .0);
+        inside = n .2;
+        fewer = omega (arith, w .fewer, sheet-fewer file next (e .place) was there (n .1) (n .2) refl refl);
+      }
 
 -- A report that stands at the start of an entry.
 pub begins : (r : Report) → r .stage ≡ Learner → r .number .value ≡ 0 → r .number .weight ≡ 1 → (r .left ≡ 0 → ⊥)

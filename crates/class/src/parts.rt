@@ -59,7 +59,7 @@ fn report_from(
     let mut used: usize = 0;
     let mut now = report;
     while ROOM <= lines.len() - used {
-        let along = passing::pass_turns(file, at, now);
+        let along = passing::pass_over(file, at, now);
         at = along.place;
         now = along.report;
         if steps::is_over(now) {

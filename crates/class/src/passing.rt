@@ -1,11 +1,10 @@
-// Further turns of the learner whose sheet is pending, in a file in memory: their numbers are read at once and no sheet is run, so that
-// the steps between are passed over.
+// Steps over an entry of a file in memory that are passed at once: its numbers are read together, and further turns of the learner whose
+// sheet is pending one after the other, since none of them is run.
 use crate::Pending;
 use crate::Report;
 use crate::Stage;
 use crate::Turned;
 use crate::steps;
-use crate::steps::MOST;
 use number::LIMIT_32;
 use number::Reading;
 use sheet_counts::Tally;
@@ -13,77 +12,90 @@ ghost use Prim.Native.Nat.{_≤_};
 ghost use mathlib.Core.Path.{_≡_};
 ghost use mathlib.Core.Bool.{true};
 ghost use lib.ListN.{length};
-ghost use Rattle.class.specs.Passing.{wholeTurn, furtherLength, furtherTurn, anotherTurn, Passed};
+ghost use Rattle.rules.specs.Formula.{test};
+ghost use Rattle.class_rules.specs.Report.{fits};
 ghost use Rattle.class.specs.Steps.{going};
+ghost use Rattle.class.specs.Passing.{lengthAt, turnAt, headerAt, Passed};
 
-// An entry that is another turn of a learner, with the place behind it; or none.
-pub enum Another {
-    Further(Turned, usize),
+// The numbers of an entry, with its sheet's place; or not all of them can be read.
+pub enum Header {
+    Numbers(Turned),
     Other,
 }
 
-// What stands at a place of the file, if it is another turn of the learner, all of it.
-fn another_turn(file: &[u8], learner: u64, place: usize) -> Another
-    ensures { λ r. ⌜ r ≡ anotherTurn (now (file .entry)) learner place ⌝ }
+// Where a report stands behind what was passed over.
+pub struct Along {
+    pub place: usize,
+    pub report: Report,
+}
+
+// The numbers of the entry at a place.
+fn header_at(file: &[u8], place: usize) -> Header
+    ensures { λ r. ⌜ r ≡ headerAt (now (file .entry)) place ⌝ }
 {
     match number::read(file, place, LIMIT_32) {
-        Reading::Value(who, next) => {
-            if who != learner {
-                return Another::Other;
-            }
-            further_turn(file, learner, next)
-        }
-        Reading::Bad(_) => Another::Other,
-        Reading::CutShort => Another::Other,
+        Reading::Value(learner, next) => turn_at(file, learner, next),
+        Reading::Bad(_) => Header::Other,
+        Reading::CutShort => Header::Other,
     }
 }
 
 // The same from the turn on, and from the length on.
-fn further_turn(file: &[u8], learner: u64, place: usize) -> Another
-    ensures { λ r. ⌜ r ≡ furtherTurn (now (file .entry)) learner place ⌝ }
+fn turn_at(file: &[u8], learner: u64, place: usize) -> Header
+    ensures { λ r. ⌜ r ≡ turnAt (now (file .entry)) learner place ⌝ }
 {
     match number::read(file, place, LIMIT_32) {
-        Reading::Value(turn, next) => further_length(file, learner, turn, next),
-        Reading::Bad(_) => Another::Other,
-        Reading::CutShort => Another::Other,
+        Reading::Value(turn, next) => length_at(file, learner, turn, next),
+        Reading::Bad(_) => Header::Other,
+        Reading::CutShort => Header::Other,
     }
 }
 
-fn further_length(file: &[u8], learner: u64, turn: u64, place: usize) -> Another
-    ensures { λ r. ⌜ r ≡ furtherLength (now (file .entry)) learner turn place ⌝ }
+fn length_at(file: &[u8], learner: u64, turn: u64, place: usize) -> Header
+    ensures { λ r. ⌜ r ≡ lengthAt (now (file .entry)) learner turn place ⌝ }
 {
     match number::read(file, place, LIMIT_32) {
-        Reading::Value(size, next) => whole_turn(file, learner, turn, size, next),
-        Reading::Bad(_) => Another::Other,
-        Reading::CutShort => Another::Other,
+        Reading::Value(size, next) => Header::Numbers(Turned {
+            learner,
+            turn,
+            place: next,
+            length: size,
+        }),
+        Reading::Bad(_) => Header::Other,
+        Reading::CutShort => Header::Other,
     }
 }
 
-// A turn whose numbers were read, if all of its sheet is there.
-fn whole_turn(file: &[u8], learner: u64, turn: u64, size: u64, place: usize) -> Another
-    requires { ⌜ place ≤ length (now file) ⌝ }
-    ensures { λ r. ⌜ r ≡ wholeTurn (now (file .entry)) learner turn size place ⌝ }
+// Whether all of a sheet is there.
+fn is_whole(file: &[u8], sheet: Turned) -> bool
+    requires { ⌜ sheet .place ≤ length (now file) ⌝ }
+    ensures { λ r. ⌜ r ≡ test (fits (now (file .entry)) (sheet .place) (sheet .length)) ⌝ }
 {
-    if MOST < size {
-        return Another::Other;
+    if steps::MOST < sheet.length {
+        return false;
     }
-    let bytes = size as usize;
-    if file.len() - place < bytes {
-        return Another::Other;
+    if file.len() - sheet.place < sheet.length as usize {
+        return false;
     }
-    let sheet = Turned {
-        learner,
-        turn,
-        place,
-        length: size,
-    };
-    Another::Further(sheet, place + bytes)
+    true
 }
 
-// Where a report stands behind turns that were passed over.
-pub struct Along {
-    pub place: usize,
-    pub report: Report,
+// Reads the numbers of an entry that begins, if they can be read.
+fn pass_numbers(file: &[u8], place: usize, report: Report) -> Along
+    requires { ⌜ (place ≤ length (now file)) × (report ≡ going (report .left) (report .pending) (report .tally)) × (1 ≤ report .left) ⌝ }
+    ensures { λ r. ⌜ Passed (now (file .entry)) place report (r .place) (r .report) ⌝ }
+{
+    let next = header_at(file, place);
+    match next {
+        Header::Numbers(e) => {
+            let report = steps::with_entry(report, Stage::Sheet, e.learner, e.turn, e.length);
+            Along {
+                place: e.place,
+                report,
+            }
+        }
+        Header::Other => Along { place, report },
+    }
 }
 
 // Passes over further turns of a pending learner, with so many entries left; the last entry is left to the steps.
@@ -95,16 +107,21 @@ fn pass_from(file: &[u8], place: usize, sheet: Turned, left: u64, tally: Tally) 
     let mut more = left;
     let mut held = sheet;
     while 1 < more {
-        let next = another_turn(file, held.learner, at);
-        let Another::Further(later, end) = next else {
+        let next = header_at(file, at);
+        let Header::Numbers(later) = next else {
             break;
         };
+        if later.learner != held.learner {
+            break;
+        }
+        if !is_whole(file, later) {
+            break;
+        }
         held = steps::supersede(file, held, later);
-        at = end;
+        at = later.place + later.length as usize;
         more -= 1;
     }
-    let report = steps::go_on(more, Pending::Somebody(held), tally);
-    Along { place: at, report }
+    pass_numbers(file, at, steps::go_on(more, Pending::Somebody(held), tally))
 }
 
 // Whether the next entry comes, and nothing of it is read.
@@ -140,8 +157,8 @@ fn begins_entry(report: Report) -> bool
     true
 }
 
-// Passes over further turns, where an entry begins and somebody is pending.
-pub fn pass_turns(file: &[u8], place: usize, report: Report) -> Along
+// Passes over what needs no step, where an entry begins.
+pub fn pass_over(file: &[u8], place: usize, report: Report) -> Along
     requires { ⌜ place ≤ length (now file) ⌝ }
     ensures { λ r. ⌜ Passed (now (file .entry)) place report (r .place) (r .report) ⌝ }
 {
@@ -150,7 +167,7 @@ pub fn pass_turns(file: &[u8], place: usize, report: Report) -> Along
     }
     let pending = report.pending;
     let Pending::Somebody(sheet) = pending else {
-        return Along { place, report };
+        return pass_numbers(file, place, report);
     };
     let tally = report.tally;
     pass_from(file, place, sheet, report.left, tally)

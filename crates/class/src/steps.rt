@@ -161,7 +161,7 @@ fn entry_or_line(left: u64) -> Stage
 }
 
 // A report at a stage, with what was read of an entry.
-fn with_entry(report: Report, stage: Stage, learner: u64, turn: u64, length: u64) -> Report
+pub fn with_entry(report: Report, stage: Stage, learner: u64, turn: u64, length: u64) -> Report
     ensures { λ r. ⌜ r ≡ entryTo report stage learner turn length ⌝ }
 {
     let number = number::start();

@@ -23,8 +23,8 @@ loop-holds c =
 sub-loop : tie.Need-sub-loop Inv-loop μ-loop
 sub-loop c = c .loop .inv .fits
 
-pass-turns-requires : tie.Need-pass-turns-requires Inv-loop μ-loop
-pass-turns-requires c κs = c .before .loop .inv .inside
+pass-over-requires : tie.Need-pass-over-requires Inv-loop μ-loop
+pass-over-requires c κs = c .before .loop .inv .inside
 
 is-over-requires : tie.Need-is-over-requires Inv-loop μ-loop
 is-over-requires c κs = search needs
@@ -37,25 +37,25 @@ same-length-2 c = c .before .before .before .before .before .loop .inv .long
 
 returns : tie.Need-returns Inv-loop μ-loop
 returns c =
-    going-ends _ _ _ _ _ _ _ _ _ _ (going-along _ _ _ _ _ _ _ _ _ _ (c .before .before .before .before .before .loop .inv) _ _ (c .before .before .before .pass-turns .ensures))
+    going-ends _ _ _ _ _ _ _ _ _ _ (going-along _ _ _ _ _ _ _ _ _ _ (c .before .before .before .before .before .loop .inv) _ _ (c .before .before .before .pass-over .ensures))
     (inl (over-nothing _ (sym (c .before .is-over .ensures) ∙ c .if1 .taken)))
 
 step-on-requires : tie.Need-step-on-requires Inv-loop μ-loop
 step-on-requires c κs =
     let l = c .before .before .before .before .before .before .before .loop .inv in
     let s = c .before .before .before .before .before .before .before .before .before .before .before in
-    ((omega (arith, l .session .same-length, s .pre .0 .0), l .keeps), (c .before .before .before .before .before .pass-turns .ensures .inside, omega (arith, l .fits)))
+    ((omega (arith, l .session .same-length, s .pre .0 .0), l .keeps), (c .before .before .before .before .before .pass-over .ensures .inside, omega (arith, l .fits)))
 
 loop-less : tie.Need-loop-less Inv-loop μ-loop
 loop-less c =
     let f = stepped-fewer _ _ _ _ _ _ _ _ _ (c .before .before .before .before .before .step-on .ensures) (not-over _ (sym (c .before .before .before .before .before .before .before .before .before .is-over .ensures) ∙ c .before .before .before .before .before .before .before .before .if1 .left)) in
-    omega (arith, f, c .before .before .before .before .before .before .before .before .before .before .before .pass-turns .ensures .fewer)
+    omega (arith, f, c .before .before .before .before .before .before .before .before .before .before .before .pass-over .ensures .fewer)
 
 loop-again : tie.Need-loop-again Inv-loop μ-loop
 loop-again c =
     let t = c .before .before .before .before .before .step-on in
     let l = c .before .before .before .before .before .before .before .before .before .before .before .before .before .loop .inv in
-    let g = going-along _ _ _ _ _ _ _ _ _ _ l _ _ (c .before .before .before .before .before .before .before .before .before .before .before .pass-turns .ensures) in
+    let g = going-along _ _ _ _ _ _ _ _ _ _ l _ _ (c .before .before .before .before .before .before .before .before .before .before .before .pass-over .ensures) in
     going-on _ _ _ _ _ _ _ _ _ _ g _ _ _ (omega (arith, l .fits)) (t .kept .1 .1 .1 .1 .0) (t .ensures)
 
 same-length-3 : tie.Need-same-length-3 Inv-loop μ-loop
@@ -76,7 +76,7 @@ report-from-spec =
     μ-loop
     loop-holds
     sub-loop
-    pass-turns-requires
+    pass-over-requires
     is-over-requires
     same-length
     same-length-2
