@@ -5,6 +5,4 @@ pub mod StepLaws
 pub mod Stepped
 pub mod LineLengths
 pub mod Chains
-pub mod Passing
-pub mod Parts
 pub mod Halves

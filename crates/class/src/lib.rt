@@ -1,19 +1,20 @@
-// The class report: a line for each learner's sheet that counts, and the sums. It goes step by step: a report asks for some bytes of
-// the file and is handed them, so that a file of any length is reported from memory for two sheets.
+// The class report step by step: a line for each learner's sheet that counts, and the sums. A report asks for some bytes of the file
+// and is handed them, so that a file of any length is reported from memory for two sheets.
 mod halves;
-mod parts;
-mod passing;
 mod printing;
 mod steps;
 
 pub use halves::free_half;
 use number::Reader;
-pub use parts::report_part;
 use sheet_counts::Tally;
+pub use steps::MOST;
 pub use steps::asks;
 pub use steps::begin;
+pub use steps::go_on;
 pub use steps::is_over;
+pub use steps::supersede;
 pub use steps::take;
+pub use steps::with_entry;
 
 // How many bytes must be free before a line is written.
 pub const ROOM: usize = 128;
@@ -70,12 +71,4 @@ pub struct Report {
 pub struct Step {
     pub report: Report,
     pub used: usize,
-}
-
-// A part of a report: the refusal, 0 if there was none, the length of the lines, and the place and the report where to go on.
-pub struct Part {
-    pub refused: u64,
-    pub used: usize,
-    pub place: usize,
-    pub report: Report,
 }

@@ -19,9 +19,9 @@ use Rattle.class.specs.Steps.{begun, asks, asksAt, doesAt, fedTo, isOver, over-
 use Rattle.class.specs.Begun.{begun-report}
 use Rattle.class.specs.Chains.{State, state, Went, still, further, said, onward, stepsLeft, steps-fewer}
 use Rattle.turns.specs.Places.{least}
-use Rattle.class.specs.Parts.{Reported, part-prints}
+use Rattle.class_parts.specs.Parts.{Reported, part-prints}
 use Rattle.number.specs.Fed.{start}
-use Rattle.class.specs.declared.Part.{Part}
+use Rattle.class_parts.specs.declared.Part.{Part}
 use Rattle.class.specs.declared.Report.{Report}
 use Rattle.class_words.specs.Words.{classWords, codeIn, codeOf, stageOf, placeOf, pendingOf, reportOf, code-nothing, lendsWords, Continued, Reports}
 

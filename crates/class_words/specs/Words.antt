@@ -10,14 +10,14 @@ use Rattle.number.specs.Splice.{splice-step, splice-none, splice-length, splice
 use Rattle.rules.specs.Formula.{Formula, choose, Formula._≐_, Formula._≼_, Formula._and_}
 use Rattle.rules.specs.FormulaLaws.{Case, decide, passes, fails, choose-yes, choose-no, Case.it-does, Case.it-does-not}
 use Rattle.class.specs.declared.Report.{Report}
-use Rattle.class.specs.declared.Part.{Part}
+use Rattle.class_parts.specs.declared.Part.{Part}
 use Rattle.class.specs.declared.Stage.{Stage}
 use Rattle.class.specs.declared.Stage.the-variants.{Head, Count, Learner, Turn, Length, Sheet, Line, Last, Nothing}
 use Rattle.class.specs.declared.Turned.{Turned}
 use Rattle.class.specs.declared.Pending.{Pending}
 use Rattle.class.specs.declared.Pending.the-variants.{Nobody, Somebody}
 use Rattle.turns.specs.Places.{least}
-use Rattle.class.specs.Parts.{lends, Reported, Parted}
+use Rattle.class_parts.specs.Parts.{lends, Reported, Parted}
 
 -- What comes next has a code: the head 0, then the number of sheets, a learner, a turn, a length, a sheet and the last line; nothing is
 -- left at 7, the line of the pending sheet is 8, and nothing is left at any other.

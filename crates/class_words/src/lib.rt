@@ -186,7 +186,7 @@ pub fn report_on(
     }
     let place = place_of(state);
     let report = report_of(state);
-    let part = class::report_part(file, place, report, memory, lines);
+    let part = class_parts::report_part(file, place, report, memory, lines);
     if part.refused != 0 {
         return part.refused;
     }

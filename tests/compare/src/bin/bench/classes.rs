@@ -23,6 +23,9 @@ const SEED: u64 = 20_261_116;
 const LINES: usize = 16_384;
 const ONE_LINE: usize = 128;
 
+/// Reports of a class with turns, which take so little time that one interruption shows in fewer.
+const TURN_ROUNDS: usize = 501;
+
 /// Learners, and turns of each, where later turns replace earlier ones.
 const LEARNERS: usize = 100;
 const TURNS: usize = 10;
@@ -80,7 +83,7 @@ fn reported(file: &[u8], room: usize) -> [Duration; 2] {
     let mut lines = vec![0; room];
     let (mut proved, mut second, mut times) = (vec![], vec![], [vec![], vec![]]);
     let began = Instant::now();
-    while times[0].len() < ROUNDS && (times[0].len() < 3 || began.elapsed() < PATIENCE) {
+    while times[0].len() < TURN_ROUNDS && (times[0].len() < 3 || began.elapsed() < PATIENCE) {
         proved.clear();
         second.clear();
         timed(&mut times[0], || report(&mut memory, file, &mut lines, &mut proved));
