@@ -1,13 +1,13 @@
 -- A step prints what comes next: what it prints, and what is printed from where the report then stands, is what was printed from
 -- where it stood.
-use Prim.Native.Nat.{ℕ, zero, suc, _+_, _-_, _≤_}
+use Prim.Native.Nat.{ℕ, zero, suc, _+_, _-_}
 use mathlib.Core.List.{List, [], _∷_, _++_, append-nil, append-assoc}
 use mathlib.Core.Path.{_≡_, refl, ap, sym, _∙_}
 use native.Mathlib.Omega.{arith}
 use native.Mathlib.Nat.{add-zero}
 use lib.ListN.{length, take, drop, length-take}
-use lib.Seq.{drop-drop, take-all, length-take-le}
-use Rattle.number.specs.Number.{limit32, readAt}
+use lib.Seq.{drop-drop, length-take-le}
+use Rattle.number.specs.Number.{limit32}
 use Rattle.number.specs.declared.Reading.{Reading}
 use Rattle.number.specs.declared.Reading.the-variants.{Value, CutShort, Bad as BadNumber}
 use Rattle.number.specs.Fed.{start, fed, feeds}
@@ -16,7 +16,7 @@ use Rattle.number.specs.declared.reader.Reader.{Reader}
 use Rattle.number.specs.declared.reader.Fed.{Fed}
 use Rattle.number.specs.declared.reader.Fed.the-variants.{More, Whole, Bad}
 use Rattle.session.specs.Table.{Session}
-use Rattle.rules.specs.Formula.{test, choose, holds, Formula._≐_, Formula._≼_}
+use Rattle.rules.specs.Formula.{choose, holds, Formula._≐_, Formula._≼_}
 use Rattle.rules.specs.FormulaLaws.{Case, decide, passes, fails, choose-yes, choose-no, Case.it-does, Case.it-does-not}
 use Rattle.sheet_counts.specs.declared.Tally.{Tally}
 use Rattle.sheet_counts.specs.Answers.{countsOf}
@@ -27,12 +27,12 @@ use Rattle.class.specs.declared.Pending.{Pending}
 use Rattle.class.specs.declared.Pending.the-variants.{Nobody, Somebody}
 use Rattle.class.specs.declared.Stage.{Stage}
 use Rattle.class.specs.declared.Stage.the-variants.{Head, Count, Learner, Turn, Length, Sheet, Line, Last, Nothing}
-use Rattle.turns.specs.Places.{least, drop-least}
-use Rattle.class_rules.specs.Report.{Entry, mostBytes, met, fits, sheetAt, head, entryLine, entryLines, lastLine}
+use Rattle.turns.specs.Places.{drop-least}
+use Rattle.class_rules.specs.Report.{Entry, mostBytes, met, fits, sheetAt, entryLine, entryLines, lastLine}
 use Rattle.class_rules.specs.OnePass.{learnerOf, superseding, printed, kept}
 use Rattle.class_rules.specs.Totals.{raisedBy}
 use Rattle.class.specs.Standing.{endText, sheetText, lengthText, turnText, learnerText, entriesText, countText, textAt, reportFrom}
-use Rattle.class.specs.Steps.{begun, turned, stopping, entryOrLine, going, valued, numbered, byte, Did, did, turnedIn, sheetOf, entryOf, pendingIn, ran, closing, closed, holding, superseded, after, taken, sheetTaken, asksAt, asks, doesAt, does, handed}
+use Rattle.class.specs.Steps.{stopping, entryOrLine, going, valued, numbered, byte, Did, turnedIn, sheetOf, entryOf, pendingIn, closed, superseded, after, taken, sheetTaken, asksAt, doesAt, does, handed}
 
 module _ (file : List ℕ) where
   -- with so many entries left, a pending sheet and a tally, the lines of those and the last line are printed

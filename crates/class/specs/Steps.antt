@@ -3,7 +3,7 @@
 -- memory for two sheets.
 use Prim.Native.Nat.{ℕ, zero, suc, _-_}
 use mathlib.Core.Bool.{Bool, true, false}
-use mathlib.Core.List.{List, [], _∷_, _++_}
+use mathlib.Core.List.{List, [], _∷_}
 use mathlib.Core.Path.{_≡_, refl, ap, sym, subst, _∙_}
 use lib.Dec.{T}
 use lib.ListN.{length, take, drop}
@@ -26,7 +26,7 @@ use Rattle.class.specs.declared.Turned.{Turned}
 use Rattle.class.specs.declared.Pending.{Pending}
 use Rattle.class.specs.declared.Pending.the-variants.{Nobody, Somebody}
 use Rattle.turns.specs.Places.{least}
-use Rattle.class_rules.specs.Report.{Entry, mostBytes, fits, sheetAt, head, countsLine, entryLine, lastLine}
+use Rattle.class_rules.specs.Report.{Entry, mostBytes, fits, sheetAt, head, entryLine, lastLine}
 
 -- A report that has printed and read nothing.
 unfoldable pub begun : Report

@@ -328,7 +328,7 @@ fn hold(report: Report, place: usize, tally: Tally) -> Report
     go_on(left, Pending::Somebody(sheet), tally)
 }
 
-// The one that supersedes, of the pending sheet and a later entry's.
+// The one that supersedes, of the pending sheet and a later entry's. Internal: the later one's place lies in the memory.
 pub fn supersede(room: &[u8], sheet: Turned, later: Turned) -> Turned
     requires { ⌜ later .place ≤ length (now room) ⌝ }
     ensures { λ r. ⌜ r ≡ superseded (now (room .entry)) sheet later ⌝ }

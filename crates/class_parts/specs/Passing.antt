@@ -5,8 +5,8 @@ use mathlib.Core.Bool.{true, false}
 use mathlib.Core.Path.{_≡_, refl, ap, sym, subst, _∙_}
 use native.Mathlib.Omega.{arith}
 use lib.Dec.{T}
-use lib.ListN.{length, take, drop, length-take, length-drop}
-use lib.Seq.{drop-drop, length-take-le, take-all}
+use lib.ListN.{length, take, drop, length-drop}
+use lib.Seq.{drop-drop, length-take-le}
 use Rattle.number.specs.Number.{limit32, readAt}
 use Rattle.number.specs.Fed.{start, fed, feeds}
 use Rattle.number.specs.FedLaws.{feeds-reads}
@@ -17,8 +17,8 @@ use Rattle.number.specs.declared.reader.Reader.{Reader}
 use Rattle.number.specs.declared.reader.Fed.{Fed}
 use Rattle.number.specs.declared.reader.Fed.the-variants.{More, Whole, Bad}
 use Rattle.session.specs.Table.{Session}
-use Rattle.rules.specs.Formula.{choose, holds, Formula._≐_, Formula._≼_}
-use Rattle.rules.specs.FormulaLaws.{Case, decide, passes, fails, choose-yes, choose-case, Case.it-does, Case.it-does-not}
+use Rattle.rules.specs.Formula.{holds, Formula._≐_, Formula._≼_}
+use Rattle.rules.specs.FormulaLaws.{passes, choose-yes}
 use Rattle.sheet_counts.specs.declared.Tally.{Tally}
 use Rattle.sheet_counts.specs.Answers.{noCounts}
 use Rattle.class_rules.specs.Report.{mostBytes, met, fits, sheetAt}
@@ -30,7 +30,7 @@ use Rattle.class.specs.declared.Pending.{Pending}
 use Rattle.class.specs.declared.Pending.the-variants.{Nobody, Somebody}
 use Rattle.class.specs.declared.Stage.{Stage}
 use Rattle.class.specs.declared.Stage.the-variants.{Learner, Turn, Length, Sheet}
-use Rattle.class.specs.Steps.{entryOrLine, entry-next, going, entryTo, valued, numbered, byte, fedTo, Did, did, turnedIn, superseded, after, taken, sheetTaken, asksAt, asks, doesAt, does, handed}
+use Rattle.class.specs.Steps.{entryOrLine, entry-next, going, entryTo, valued, numbered, byte, fedTo, Did, did, superseded, after, taken, sheetTaken, asksAt, doesAt, does, handed}
 use Rattle.class.specs.Chains.{State, state, onward, stepOf, Went, further, stepsLeft, no-more, sheet-fewer}
 
 -- The numbers of the entry at a place, from its length on, from its turn on and from its learner on: the sheet as it was turned in,

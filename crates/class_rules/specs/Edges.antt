@@ -7,7 +7,7 @@ use Rattle.decimal.specs.Decimal.{decimal, decimalIn}
 use Rattle.lines.specs.Line.{marked}
 use Rattle.number.specs.Number.{more, value, lastByte, shortest, judged, readFirst, readAt}
 use Rattle.rules.specs.Formula.{test}
-use Rattle.sheet_counts.specs.Edges.{Edges as CountEdges, mainStarts, notMade, headAlone, edges-hold as counted}
+use Rattle.sheet_counts.specs.Edges.{edges-hold as counted}
 use Rattle.class_rules.specs.Report.{Entry, met, entriesAt, classOf, allIn, isCounted, countedIn, head, countsLine, entryLine, entryLines, stopLine, totals, lastLine, report}
 use Rattle.class_rules.specs.OnePass.{printed, kept, onePass}
 

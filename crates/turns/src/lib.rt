@@ -35,7 +35,7 @@ fn rest_of(room: &[u8], place: usize) -> &[u8]
 }
 
 // Where the one that supersedes begins, of two sheets in one memory: what a memory holds from a place on tells by its length which
-// place that is.
+// place that is. Internal: callers have shown that the later one's place lies in the memory.
 pub fn superseding_place(room: &[u8], held: usize, past: u64, place: usize, turn: u64) -> usize
     requires { ⌜ place ≤ length (now room) ⌝ }
     ensures { λ r. ⌜ r ≡ choose (past ≼ turn) place (least held (length (now (room .entry)))) ⌝ }

@@ -1,5 +1,4 @@
 -- `class::printing::write_last` meets its contract.
-use mathlib.Core.Path.{refl}
 use native.Mathlib.Omega.{arith}
 use Rattle.rules.specs.Formula.{Formula._≐_}
 use Rattle.rules.specs.FormulaLaws.{choose-yes, choose-no}

@@ -1,5 +1,4 @@
 -- `class::steps::print_last` meets its contract.
-use native.Mathlib.Omega.{arith}
 use borrow.Author.Needs.{needs}
 use Rattle.class.proofs.steps.print_last.Statement.{statement}
 use Rattle.class.proofs.steps.print_last.Tie as tie

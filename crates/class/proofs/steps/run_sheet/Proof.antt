@@ -1,5 +1,4 @@
 -- `class::steps::run_sheet` meets its contract: the counts that the run gives are in the line and in the tally.
-use mathlib.Core.Path.{refl}
 use borrow.Author.Needs.{needs}
 use Rattle.class.proofs.steps.run_sheet.Statement.{statement}
 use Rattle.class.proofs.steps.run_sheet.Tie as tie

@@ -48,7 +48,11 @@ pub fn print_table() {
     print_row("long", &long, LINES);
     print_row("short", &short, ONE_LINE);
     println!();
-    print_turns(&[("short", &short[..LEARNERS * TURNS]), ("the listing", &vec![listing(); LEARNERS * TURNS]), ("long", &long)]);
+    print_turns(&[
+        ("short", &short[..LEARNERS * TURNS]),
+        ("the listing", &vec![listing(); LEARNERS * TURNS]),
+        ("long", &long),
+    ]);
 }
 
 /// A class of learners with one sheet each, beside the same learners with nine earlier turns before it.
@@ -60,7 +64,9 @@ fn print_turns(kinds: &[(&str, &[Vec<u8>])]) {
         let mut once = 0.0;
         for count in [1, TURNS] {
             let turns: Vec<Vec<_>> = (0..learners)
-                .map(|place| (TURNS - count..TURNS).map(|turn| (turn as u64, sheets[place * TURNS + turn].clone())).collect())
+                .map(|place| {
+                    (TURNS - count..TURNS).map(|turn| (turn as u64, sheets[place * TURNS + turn].clone())).collect()
+                })
                 .collect();
             let file = turns_of(&turns);
             let [proved, second] = reported(&file, LINES).map(|time| 1e6 * time.as_secs_f64());
