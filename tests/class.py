@@ -13,6 +13,8 @@ import subprocess
 import sys
 import tempfile
 
+from verdict import verdict
+
 ROOT = os.path.dirname(os.path.dirname(os.path.abspath(__file__)))
 CLASS = os.path.join(ROOT, 'class')
 EXAMPLE = """\
@@ -165,11 +167,7 @@ def reports():
 def main():
     with tempfile.TemporaryDirectory() as place:
         tests = calls(place) + folders() + reports()
-    failed = [(name, got, wanted) for name, got, wanted in tests if got != wanted]
-    for name, got, wanted in failed:
-        print(f'{name}: got {got}, not {wanted}')
-    print(f'{len(tests) - len(failed)} passed, {len(failed)} failed')
-    return 1 if failed else 0
+    return verdict(tests)
 
 
 if __name__ == '__main__':

@@ -11,6 +11,8 @@ import subprocess
 import sys
 import tempfile
 
+from verdict import verdict
+
 ROOT = os.path.dirname(os.path.dirname(os.path.abspath(__file__)))
 LISTING = os.path.join(ROOT, 'crates', 'ocr_sheet', 'stdout')
 NAMES = ['grant', 'start', 'template', 'task', 'event', 'dependence', 'satisfy', 'deliver', 'grant', 'release', 'grant', 'end']
@@ -54,11 +56,7 @@ def main():
         ('a folder', turned_down(nested, "'.' is a folder"), True),
         ('two files', turned_down(two, 'one file at a time'), True),
     ]
-    failed = [(name, got, wanted) for name, got, wanted in tests if got != wanted]
-    for name, got, wanted in failed:
-        print(f'{name}: got {got}, not {wanted}')
-    print(f'{len(tests) - len(failed)} passed, {len(failed)} failed')
-    return 1 if failed else 0
+    return verdict(tests)
 
 
 if __name__ == '__main__':

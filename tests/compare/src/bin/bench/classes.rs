@@ -69,7 +69,7 @@ fn print_turns(kinds: &[(&str, &[Vec<u8>])]) {
                 })
                 .collect();
             let file = turns_of(&turns);
-            let [proved, second] = reported(&file, LINES).map(|time| 1e6 * time.as_secs_f64());
+            let [proved, second, _] = reported(&file, LINES, TURN_ROUNDS, |_| ()).map(|time| 1e6 * time.as_secs_f64());
             if count == 1 {
                 once = proved;
             }
@@ -81,22 +81,6 @@ fn print_turns(kinds: &[(&str, &[Vec<u8>])]) {
             );
         }
     }
-}
-
-/// The median time of both reports of a class file, which are the same.
-fn reported(file: &[u8], room: usize) -> [Duration; 2] {
-    let mut memory = Memory::new(vec![0; WORDS]);
-    let mut lines = vec![0; room];
-    let (mut proved, mut second, mut times) = (vec![], vec![], [vec![], vec![]]);
-    let began = Instant::now();
-    while times[0].len() < TURN_ROUNDS && (times[0].len() < 3 || began.elapsed() < PATIENCE) {
-        proved.clear();
-        second.clear();
-        timed(&mut times[0], || report(&mut memory, file, &mut lines, &mut proved));
-        timed(&mut times[1], || second::class::report(file, &mut second));
-        assert!(proved == second, "the reports differ");
-    }
-    times.map(median)
 }
 
 /// Document 01's listing, which is the sheet program's input.
@@ -120,23 +104,29 @@ fn print_row(name: &str, sheets: &[Vec<u8>], room: usize) {
     );
 }
 
-/// The median time of both reports, which are the same, and of the sheets one by one; by turns, so that a busy machine
-/// slows all of them.
+/// The median time of both reports, and of the sheets one by one.
 fn measure(sheets: &[Vec<u8>], room: usize) -> [Duration; 3] {
-    let file = class_of(sheets);
-    let mut memory = Memory::new(vec![0; WORDS]);
-    let mut lines = vec![0; room];
     // A record takes two bytes at least, and a line 32 at most.
     let mut all_lines = vec![0; 16 * sheets.iter().map(Vec::len).max().unwrap_or(0) + 128];
-    let [mut proved, mut second] = [0, 1].map(|_| Vec::with_capacity(128 * (sheets.len() + 2)));
+    reported(&class_of(sheets), room, ROUNDS, |memory| {
+        sheets.iter().for_each(|sheet| run_alone(memory, sheet, &mut all_lines))
+    })
+}
+
+/// The median time of both reports of a class file, which are the same, and of other work on the memory; by turns, so
+/// that a busy machine slows all of them.
+fn reported(file: &[u8], room: usize, rounds: usize, mut other: impl FnMut(&mut Memory)) -> [Duration; 3] {
+    let mut memory = Memory::new(vec![0; WORDS]);
+    let mut lines = vec![0; room];
+    let [mut proved, mut second] = [0, 1].map(|_| vec![]);
     let mut times: [Vec<Duration>; 3] = Default::default();
     let began = Instant::now();
-    while times[0].len() < ROUNDS && (times[0].len() < 3 || began.elapsed() < PATIENCE) {
+    while times[0].len() < rounds && (times[0].len() < 3 || began.elapsed() < PATIENCE) {
         proved.clear();
         second.clear();
-        timed(&mut times[0], || report(&mut memory, &file, &mut lines, &mut proved));
-        timed(&mut times[1], || second::class::report(&file, &mut second));
-        timed(&mut times[2], || sheets.iter().for_each(|sheet| run_alone(&mut memory, sheet, &mut all_lines)));
+        timed(&mut times[0], || report(&mut memory, file, &mut lines, &mut proved));
+        timed(&mut times[1], || second::class::report(file, &mut second));
+        timed(&mut times[2], || other(&mut memory));
         assert!(proved == second, "the reports differ");
     }
     times.map(median)

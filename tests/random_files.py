@@ -1,0 +1,57 @@
+"""What random_sheets.py and random_classes.py share: the files of a generator, short ones of them cut and changed, and two programs on
+each."""
+import concurrent.futures
+import os
+import subprocess
+import tempfile
+
+SHORT = 120
+AT_ONCE = 2
+
+
+def printed(program, file):
+    return subprocess.run([program], input=file, stdout=subprocess.PIPE, check=True).stdout
+
+
+def drawn(generator, seed, count, folder):
+    """The generator's files, in order."""
+    subprocess.run([generator, seed, str(count), folder], check=True, stdout=subprocess.DEVNULL)
+    for name in sorted(os.listdir(folder)):
+        with open(os.path.join(folder, name), 'rb') as file:
+            yield name, file.read()
+
+
+def varied(name, file):
+    """A short file cut at every length, and with every byte changed."""
+    for end in range(len(file)):
+        yield '%s cut at %d' % (name, end), file[:end]
+    for place in range(len(file)):
+        changed = bytearray(file)
+        changed[place] ^= 1 << place % 8
+        yield '%s byte %d changed' % (name, place), bytes(changed)
+
+
+def cases(generator, seed, count, few, folder):
+    """All files that are drawn, and what is made of a few short ones."""
+    files = list(drawn(generator, seed, count, folder))
+    yield from files
+    short = [case for case in files if 60 <= len(case[1]) <= SHORT][:few]
+    assert len(short) == few, 'too few short files were drawn'
+    for case in short:
+        yield from varied(*case)
+
+
+def compared(program, second, generator, seed, count, few):
+    """Prints each file on which the two programs differ, and `N passed, M failed`; the exit status."""
+    passed, failed = 0, 0
+
+    def agrees(case):
+        return case[0], printed(program, case[1]) == printed(second, case[1])
+
+    with tempfile.TemporaryDirectory() as folder, concurrent.futures.ThreadPoolExecutor(AT_ONCE) as pool:
+        for name, same in pool.map(agrees, cases(generator, seed, count, few, folder)):
+            passed, failed = passed + same, failed + (not same)
+            if not same:
+                print('%s: the two programs print other lines' % name)
+    print('%d passed, %d failed' % (passed, failed))
+    return 1 if failed or passed < count else 0
