@@ -3,13 +3,16 @@
 
 A class of 200,000 sheets, made while it is read and never whole anywhere, is reported right, in under 8 MB of resident
 memory and in no more than a class of two takes: as many learners with a sheet each, and a fourth of them with four
-turns each, of which the third counts. Of standard input no byte after the last sheet is read: each class is
-followed by other bytes, which must be left in the pipe, and in a file that is read from a place on. (The lines are
-gathered before they are written: they need not come as the sheets come.) Prints `N passed, M failed`.
+turns each, of which the third counts. Of standard input no byte after the last sheet is read: each class is followed by
+other bytes, which must be left in the pipe, in a file that is read from a place on, and where each read gives one byte.
+Nor is one waited for: the report of a class, and of a stop, comes while the pipe stays open. (The lines are gathered
+before they are written: they need not come as the sheets come. Of a class that stops, bytes behind the stop may have
+been read, if they are of entries that its first number told.) Prints `N passed, M failed`.
 """
 import fcntl
 import os
 import re
+import socket
 import struct
 import subprocess
 import sys
@@ -92,7 +95,30 @@ def left_in_file(program, file):
         return printed, whole.read()
 
 
-# What a class file has, its bytes, and its report. A sheet that is cut short reads nothing of what follows it, and neither does a stop.
+def by_bytes(program, file):
+    """What the program prints of a class file of which each read gives one byte, and what it leaves."""
+    ours, its = socket.socketpair(socket.AF_UNIX, socket.SOCK_SEQPACKET)
+    with ours, its:
+        run = subprocess.Popen([program], stdin=its, stdout=subprocess.PIPE)
+        for byte in file + AFTER:
+            ours.send(bytes([byte]))
+        ours.shutdown(socket.SHUT_WR)
+        printed = run.communicate(timeout=SECONDS)[0]
+        return printed, b''.join(iter(lambda: its.recv(1), b''))
+
+
+def while_open(program, file):
+    """What the program prints of a class file in a pipe that nobody closes."""
+    reading, writing = os.pipe()
+    os.write(writing, file)
+    with open(reading, 'rb', buffering=0) as pipe, open(writing, 'wb', buffering=0):
+        try:
+            return subprocess.run([program], stdin=pipe, stdout=subprocess.PIPE, timeout=SECONDS).stdout
+        except subprocess.TimeoutExpired:
+            return b''
+
+
+# What a class file has, its bytes, and its report. A sheet that is cut short reads nothing of what follows it.
 CLASSES = [
     ('two sheets', b'\2' + entry(7, SHEET) + entry(300, SHEET), b'class 1\n7 1 2 0 1 0\n300 1 2 0 1 0\n4 0 2 0\n'),
     ('no sheets', b'\0', b'class 1\n0 0 0 0\n'),
@@ -101,7 +127,14 @@ CLASSES = [
     ('a sheet of 32,768 bytes', b'\1' + entry(7, bytes(32768)), b'class 1\n7 1 1 1 0 0\n1 1 0 0\n'),
     ('a later turn', b'\2' + entry(7, SHEET) + entry(7, b'', 2), b'class 1\n7 2 1 1 0 0\n1 1 0 0\n'),
     ('an earlier turn', b'\2' + entry(7, SHEET, 2) + entry(7, b'\1'), b'class 1\n7 2 2 0 1 0\n2 0 1 0\n'),
-    ('a lower learner', b'\3' + entry(7, SHEET) + entry(6, SHEET), b'class 1\n7 1 2 0 1 0\nstop 23\n'),
+    ('a lower learner', b'\2' + entry(7, SHEET) + entry(6, SHEET), b'class 1\n7 1 2 0 1 0\nstop 23\n'),
+]
+
+# Classes of a hundred sheets that stop at the first or the second.
+STOPS = [
+    ('a number with a group too many', b'\x64\x80\0', b'class 1\nstop 4\n'),
+    ('a sheet that is too long', b'\x64\7\1' + shortest(32769), b'class 1\nstop 22\n'),
+    ('a lower learner of many', b'\x64' + entry(7, SHEET) + entry(6, SHEET), b'class 1\n7 1 2 0 1 0\nstop 23\n'),
 ]
 
 
@@ -118,6 +151,9 @@ def tests(program):
     for name, file, wanted in CLASSES:
         yield name + ' in a pipe', left_in_pipe(program, file), (wanted, AFTER)
         yield name + ' in a file', left_in_file(program, file), (wanted, AFTER)
+        yield name + ' byte by byte', by_bytes(program, file), (wanted, AFTER)
+    for name, file, wanted in CLASSES + STOPS:
+        yield name + ' in an open pipe', while_open(program, file), wanted
 
 
 def main():

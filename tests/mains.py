@@ -1,15 +1,16 @@
 #!/usr/bin/env python3
 """mains.py [PROGRAM..]: wrong programs that no contract can refuse, and that a test fails on.
 
-The toolchain's `read` and `write` say nothing of the bytes, so that the few lines of a `main` which read and write are under no
+The toolchain's `read` and `write` say nothing of the bytes, so that the few lines of a program which read and write are under no
 contract (docs/PROMISES.md). Here each program is tried on inputs whose output was worked out from documents 01, 02 and docs/TEXT.md
-alone: as it stands and with a harmless edit of its `main` the outputs must be right; with each wrong edit it must still be
+alone: as it stands and with a harmless edit of its code the outputs must be right; with each wrong edit it must still be
 proved, so that the edit shows what proofs do not see, and an output must be wrong.
 
 The edits are made in a copy of the tree, with what was proved of it. Prints a line a try, and last `N passed, M failed`.
 """
 import concurrent.futures
 import os
+import pathlib
 import shutil
 import subprocess
 import sys
@@ -52,7 +53,8 @@ EDITS = [
     ('sheet_to_text', False, 'io::write_all(1, &out[..used]);', 'io::write_all(2, &out[..used]);'),
     ('class_report', True, 'io::write_all(1, &lines[..filled]);', 'io::write_all(0x1, &lines[..filled]);'),
     ('class_report', False, 'io::write_all(1, &lines[..filled]);', 'io::write_all(2, &lines[..filled]);'),
-    ('class_report', False, 'io::read_full(0, &mut room[place..end])', 'io::read_full(3, &mut room[place..end])'),
+    ('class_report', False, 'libc::read(0, &mut input[..most])', 'libc::read(3, &mut input[..most])'),
+    ('class_report', False, 'io::read_full(0, &mut room[from..to])', 'io::read_full(3, &mut room[from..to])'),
     ('class_report', False, 'let mut turns = u64::MAX;', 'let mut turns = 4096u64;'),
 ]
 
@@ -81,16 +83,14 @@ def is_right(folder, program):
 
 def tried(folder, program, harmless, old, new):
     """Whether an edit is proved, and seen in an output exactly if it is wrong; and in words."""
-    path = os.path.join(folder, 'crates', program, 'src', 'main.rt')
-    with open(path, encoding='utf-8') as file:
-        text = file.read()
-    if text.count(old) != 1:
-        return False, '`%s` stands %d times in its main' % (old, text.count(old))
-    with open(path, 'w', encoding='utf-8') as file:
-        file.write(text.replace(old, new))
+    sources = sorted(pathlib.Path(folder, 'crates', program, 'src').glob('*.rt'))
+    texts = [(path, path.read_text(encoding='utf-8')) for path in sources]
+    if sum(text.count(old) for _, text in texts) != 1:
+        return False, '`%s` does not stand once in its code' % old
+    path, text = next(found for found in texts if old in found[1])
+    path.write_text(text.replace(old, new), encoding='utf-8')
     proved, right = is_proved(folder, program), is_right(folder, program)
-    with open(path, 'w', encoding='utf-8') as file:
-        file.write(text)
+    path.write_text(text, encoding='utf-8')
     if not proved:
         return False, '`%s` is not proved' % new
     return right == harmless, '`%s`: proved, and prints what is %s' % (new, 'right' if right else 'wrong')

@@ -1,31 +1,19 @@
 // The class report program: reports the class file on standard input, in memory for two sheets.
+mod reading;
+
 use class::Report;
 use class::Stage;
 use class::Step;
+use reading::Window;
 ghost use Prim.Native.Nat.{_+_, _≤_};
 ghost use mathlib.Core.Path.{_≡_};
 ghost use lib.ListN.{length};
 ghost use Rattle.sheet.specs.Printing.{Ready};
 ghost use Rattle.text.specs.Put.{Put};
-ghost use Rattle.class.specs.Halves.{InHalf, freeHalf};
-ghost use Rattle.class_report.specs.Reads.{Given, stepOn};
+ghost use Rattle.class_report.specs.Window.{stepOn};
 
 // How many bytes of lines are gathered, at most, before they are written.
 const PART: usize = 16384;
-
-// Reads what a report asks for into the half of the memory in which no pending sheet lies, which stays as it is; the place behind what
-// was read. No byte past those that are asked for is read: what follows the last sheet is left in standard input.
-fn read_asked(report: Report, place: usize, room: &mut [u8]) -> usize
-    requires { ⌜ (length (now room) ≡ 65536) × InHalf (report .pending) × (place ≡ freeHalf (report .pending)) ⌝ }
-    ensures { λ r. ⌜ Given (report .pending) place (now (room .entry)) (now (room .exit)) r ⌝ }
-{
-    let n = class::asks(report);
-    if n == 0 {
-        return place;
-    }
-    let end = place + n;
-    place + io::read_full(0, &mut room[place..end])
-}
 
 // A step, its line put behind those that are gathered already.
 fn gather(
@@ -72,6 +60,8 @@ fn main() {
     let mut memory = [0u64; session::names::WORDS];
     session::write_fresh(&mut memory);
     let mut room = [0u8; class::TWO_SHEETS];
+    let mut input = [0u8; reading::INPUT];
+    let mut window = Window { from: 0, to: 0 };
     let mut lines = [0u8; PART];
     let mut filled = 0;
     let mut report = class::begin();
@@ -79,8 +69,17 @@ fn main() {
     let mut turns = u64::MAX;
     while 0 < turns {
         let place = class::free_half(report);
-        let end = read_asked(report, place, &mut room);
-        let step = gather(report, &room, place, end, &mut memory, &mut lines, filled);
+        let handed = reading::read_asked(report, window, &mut input, place, &mut room);
+        let step = gather(
+            report,
+            &room,
+            place,
+            handed.end,
+            &mut memory,
+            &mut lines,
+            filled,
+        );
+        window = handed.window;
         filled = step.used;
         report = step.report;
         let stage = report.stage;

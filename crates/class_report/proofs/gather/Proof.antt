@@ -1,6 +1,7 @@
 -- `class_report::gather` meets its contract: the line lies within the memory behind the lines before it.
 use native.Mathlib.Omega.{arith}
 use Rattle.lines.specs.LineLaws.{splice-tail}
+use Rattle.class_report.specs.Window.{stepOn}
 use borrow.Author.Needs.{needs}
 use Rattle.class_report.proofs.gather.Statement.{statement}
 use Rattle.class_report.proofs.gather.Tie as tie
@@ -37,7 +38,7 @@ returns c =
       (
         record {
           place = omega (arith, line .place);
-          written = rw (line .written) (splice-tail (a .lines .now) (a .filled) _ (omega (arith, start .pre .0 .1, start .pre .0 .2)));
+          written = rw (line .written) (splice-tail (a .lines .now) (a .filled) (stepOn (a .room .now) (a .place) (a .end) (a .report) (a .memory .now) .text) (omega (arith, start .pre .0 .1, start .pre .0 .2)));
         },
         (
           record { lends = (rw (t .kept .1 .1 .1 .1 .0) (r .lends .0), rw (same-length-2 c) (r .lends .1)); keeps = t .ensures .keeps },

@@ -1,5 +1,6 @@
 //! Sheets per second of a class report: the proved one through the library, part by part, beside the second engine's;
-//! and a sheet in a class beside the same sheet alone. Then reports of learners with one turn and with ten.
+//! and a sheet in a class beside the same sheet alone. Then reports of learners with one turn and with ten, also by the
+//! class programs.
 
 use std::fs;
 use std::path::Path;
@@ -12,6 +13,7 @@ use second::random::Random;
 use second::sheets::{random_sheet, short_sheet};
 
 use crate::median;
+use crate::processes::{self, programs};
 
 /// Reports of a class, of which the median counts; no more than fit in this time.
 const ROUNDS: usize = 51;
@@ -25,6 +27,9 @@ const ONE_LINE: usize = 128;
 
 /// Reports of a class with turns, which take so little time that one interruption shows in fewer.
 const TURN_ROUNDS: usize = 501;
+
+/// Runs of a class program, of which the median counts.
+const PROGRAM_ROUNDS: usize = 201;
 
 /// Learners, and turns of each, where later turns replace earlier ones.
 const LEARNERS: usize = 100;
@@ -55,31 +60,55 @@ pub fn print_table() {
     ]);
 }
 
-/// A class of learners with one sheet each, beside the same learners with nine earlier turns before it.
+/// The class file of learners with one turn each, the last of theirs, or with all of them.
+fn class_with_turns(sheets: &[Vec<u8>], count: usize) -> Vec<u8> {
+    let turns: Vec<Vec<_>> = sheets
+        .chunks(TURNS)
+        .map(|sheets| (TURNS - count..TURNS).map(|turn| (turn as u64, sheets[turn].clone())).collect())
+        .collect();
+    turns_of(&turns)
+}
+
+/// A class of learners with one sheet each, beside the same learners with nine earlier turns before it: a file in memory,
+/// and then the same by the class programs, each from its start to its end.
 fn print_turns(kinds: &[(&str, &[Vec<u8>])]) {
-    println!("| sheets | learners | turns of each | bytes | proved, µs | second, µs | proved / second | as much as with one turn |");
-    println!("|---|---|---|---|---|---|---|---|");
+    let files = |sheets| [1, TURNS].map(|count| class_with_turns(sheets, count));
+    print_turns_head("in memory");
     for (name, sheets) in kinds {
-        let learners = sheets.len() / TURNS;
-        let mut once = 0.0;
-        for count in [1, TURNS] {
-            let turns: Vec<Vec<_>> = (0..learners)
-                .map(|place| {
-                    (TURNS - count..TURNS).map(|turn| (turn as u64, sheets[place * TURNS + turn].clone())).collect()
-                })
-                .collect();
-            let file = turns_of(&turns);
-            let [proved, second, _] = reported(&file, LINES, TURN_ROUNDS, |_| ()).map(|time| 1e6 * time.as_secs_f64());
-            if count == 1 {
-                once = proved;
-            }
-            println!(
-                "| {name} | {learners} | {count} | {} | {proved:.1} | {second:.1} | {:.2} | {:.2} |",
-                file.len(),
-                second / proved,
-                proved / once
-            );
-        }
+        let files = files(sheets);
+        let times = reported(&files, LINES, TURN_ROUNDS, |_| ());
+        let both = |place: usize| [times[place][0], times[place][1]];
+        print_two_rows(name, sheets.len() / TURNS, [0, 1].map(|place| (files[place].len(), both(place))));
+    }
+    println!();
+    print_turns_head("by the programs");
+    let programs = programs("class_report", "class");
+    for (name, sheets) in kinds {
+        let files = files(sheets);
+        let times = processes::measure(&programs, &files, PROGRAM_ROUNDS);
+        let both = |place: usize| times[place].0.clone().map(median);
+        print_two_rows(name, sheets.len() / TURNS, [0, 1].map(|place| (files[place].len(), both(place))));
+    }
+}
+
+fn print_turns_head(what: &str) {
+    let both = "proved, µs | second, µs | proved / second";
+    println!("| {what} | learners | turns of each | bytes | {both} | as much as with one turn |");
+    println!("|---|---|---|---|---|---|---|---|");
+}
+
+/// The rows of one turn and of all, of which the bytes and both times are told.
+fn print_two_rows(name: &str, learners: usize, rows: [(usize, [Duration; 2]); 2]) {
+    let once = rows[0].1[0].as_secs_f64();
+    for (count, (size, times)) in [1, TURNS].into_iter().zip(rows) {
+        let [proved, second] = times.map(|time| time.as_secs_f64());
+        println!(
+            "| {name} | {learners} | {count} | {size} | {:.1} | {:.1} | {:.2} | {:.2} |",
+            1e6 * proved,
+            1e6 * second,
+            second / proved,
+            proved / once
+        );
     }
 }
 
@@ -108,28 +137,33 @@ fn print_row(name: &str, sheets: &[Vec<u8>], room: usize) {
 fn measure(sheets: &[Vec<u8>], room: usize) -> [Duration; 3] {
     // A record takes two bytes at least, and a line 32 at most.
     let mut all_lines = vec![0; 16 * sheets.iter().map(Vec::len).max().unwrap_or(0) + 128];
-    reported(&class_of(sheets), room, ROUNDS, |memory| {
+    reported(&[class_of(sheets)], room, ROUNDS, |memory| {
         sheets.iter().for_each(|sheet| run_alone(memory, sheet, &mut all_lines))
-    })
+    })[0]
 }
 
-/// The median time of both reports of a class file, which are the same, and of other work on the memory; by turns, so
-/// that a busy machine slows all of them.
-fn reported(file: &[u8], room: usize, rounds: usize, mut other: impl FnMut(&mut Memory)) -> [Duration; 3] {
+/// Of each class file the median time of both reports, which are the same, and of other work on the memory; in each round
+/// every file has its turn, so that a busy machine slows all of them.
+fn reported(files: &[Vec<u8>], room: usize, rounds: usize, mut other: impl FnMut(&mut Memory)) -> Vec<[Duration; 3]> {
     let mut memory = Memory::new(vec![0; WORDS]);
     let mut lines = vec![0; room];
     let [mut proved, mut second] = [0, 1].map(|_| vec![]);
-    let mut times: [Vec<Duration>; 3] = Default::default();
+    let mut times: Vec<[Vec<Duration>; 3]> = files.iter().map(|_| Default::default()).collect();
     let began = Instant::now();
-    while times[0].len() < rounds && (times[0].len() < 3 || began.elapsed() < PATIENCE) {
-        proved.clear();
-        second.clear();
-        timed(&mut times[0], || report(&mut memory, file, &mut lines, &mut proved));
-        timed(&mut times[1], || second::class::report(file, &mut second));
-        timed(&mut times[2], || other(&mut memory));
-        assert!(proved == second, "the reports differ");
+    for round in 0..rounds {
+        if round >= 3 && began.elapsed() > PATIENCE {
+            break;
+        }
+        for (file, times) in files.iter().zip(&mut times) {
+            proved.clear();
+            second.clear();
+            timed(&mut times[0], || report(&mut memory, file, &mut lines, &mut proved));
+            timed(&mut times[1], || second::class::report(file, &mut second));
+            timed(&mut times[2], || other(&mut memory));
+            assert!(proved == second, "the reports differ");
+        }
     }
-    times.map(median)
+    times.into_iter().map(|times| times.map(median)).collect()
 }
 
 /// A sheet as the sheet program runs it: a fresh session, the records, the last line.

@@ -1,6 +1,7 @@
 mod by_operation;
 mod classes;
 mod passes;
+mod processes;
 mod sheets;
 
 use std::env;

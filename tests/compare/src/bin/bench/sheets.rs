@@ -1,9 +1,9 @@
 //! Records per second of the two sheet programs, each run as a process with the sheet on its standard input.
 
 use std::fs::File;
-use std::path::{Path, PathBuf};
-use std::process::{Command, Stdio};
-use std::time::{Duration, Instant};
+use std::path::PathBuf;
+use std::process::Command;
+use std::time::Duration;
 use std::{env, fs, process};
 
 use compare::stages::Grown;
@@ -11,6 +11,7 @@ use second::sheets::random_sheet;
 use second::{write_record, EventState, EventType, Object, Operation, TaskState};
 
 use crate::median;
+use crate::processes::{measure, programs};
 
 /// Runs of a sheet, of which the median counts.
 const ROUNDS: usize = 51;
@@ -42,7 +43,7 @@ pub fn print_tables() {
 /// The whole time of the processes, from their start to their end.
 fn print_set(name: &str, sheets: Vec<Vec<u8>>) {
     let (mut times, mut records) = ([Duration::ZERO; 2], 0);
-    for (taken, lines) in measure(&sheets) {
+    for (taken, lines) in measure(&sheet_programs(), &sheets, ROUNDS) {
         times.iter_mut().zip(taken.map(median)).for_each(|(sum, median)| *sum += median);
         records += lines - 1;
     }
@@ -68,7 +69,7 @@ fn print_steady(name: &str, objects: u64, links: u64, counts: &[u64]) {
 fn instructions(sheet: &[u8]) -> [f64; 2] {
     let file = env::temp_dir().join(format!("faltxigor-{}.sheet", process::id()));
     fs::write(&file, sheet).expect("a file for the sheet");
-    let counts = programs().map(|program| {
+    let counts = sheet_programs().map(|program| {
         let mut command = Command::new("valgrind");
         command.args(["--tool=callgrind", "--callgrind-out-file=/dev/null"]).arg(program);
         let output = command.stdin(File::open(&file).expect("the sheet")).output().expect("valgrind");
@@ -103,43 +104,6 @@ fn place(grown: &Grown, suits: impl Fn(&Object) -> bool) -> u64 {
     1 + grown.session.objects.iter().position(suits).expect("such an object") as u64
 }
 
-/// Of each sheet the times of both programs, and how many lines they print: the same, which is looked at first. In each
-/// round every sheet has its turn, so that a busy machine slows all of them.
-fn measure(sheets: &[Vec<u8>]) -> Vec<([Vec<Duration>; 2], usize)> {
-    let folder = env::temp_dir().join(format!("faltxigor-{}", process::id()));
-    fs::create_dir_all(&folder).expect("a folder for the sheets");
-    let files: Vec<PathBuf> = (0..sheets.len()).map(|place| folder.join(format!("{place}.sheet"))).collect();
-    files.iter().zip(sheets).for_each(|(file, sheet)| fs::write(file, sheet).expect("a file for the sheet"));
-    let programs = programs();
-    let lines: Vec<usize> = files.iter().map(|file| lines_of(&programs, file)).collect();
-    let mut times = vec![[vec![], vec![]]; sheets.len()];
-    for _ in 0..ROUNDS {
-        for (file, times) in files.iter().zip(&mut times) {
-            times.iter_mut().zip(&programs).for_each(|(times, program)| times.push(run(program, file).0));
-        }
-    }
-    fs::remove_dir_all(&folder).expect("the folder goes");
-    times.into_iter().zip(lines).collect()
-}
-
-fn lines_of(programs: &[PathBuf; 2], file: &Path) -> usize {
-    let printed = [0, 1].map(|program| run(&programs[program], file).1);
-    assert!(printed[0] == printed[1], "the programs print other lines");
-    printed[0].iter().filter(|byte| **byte == b'\n').count()
-}
-
-fn programs() -> [PathBuf; 2] {
-    let root = Path::new(env!("CARGO_MANIFEST_DIR")).join("../..");
-    [root.join("target/bin/ocr_sheet"), root.join("tests/second/target/release/sheet")]
-}
-
-fn run(program: &Path, sheet: &Path) -> (Duration, Vec<u8>) {
-    let input = File::open(sheet).expect("the sheet");
-    let mut command = Command::new(program);
-    command.stdin(input).stdout(Stdio::piped());
-    let began = Instant::now();
-    let output = command.output().unwrap_or_else(|error| panic!("{}: {error}", program.display()));
-    let time = began.elapsed();
-    assert!(output.status.success(), "{} fails", program.display());
-    (time, output.stdout)
+fn sheet_programs() -> [PathBuf; 2] {
+    programs("ocr_sheet", "sheet")
 }
