@@ -58,6 +58,9 @@ EDITS = [
     ('class_report', False, 'let mut turns = u64::MAX;', 'let mut turns = 4096u64;'),
 ]
 
+# edits that are tried one after the other, in one copy of the tree
+AT_A_TIME = 3
+
 
 def copy_of_tree(folder):
     """The crates, with what was proved of them."""
@@ -96,18 +99,27 @@ def tried(folder, program, harmless, old, new):
     return right == harmless, '`%s`: proved, and prints what is %s' % (new, 'right' if right else 'wrong')
 
 
-def answers(program):
+def answers(job):
     """What was tried of a program, in a copy of its own: whether it went as it must, and in words."""
+    program, edits = job
     with tempfile.TemporaryDirectory() as folder:
         copy_of_tree(folder)
         first = (is_proved(folder, program) and is_right(folder, program), 'as it stands')
-        return [first] + [tried(folder, *edit) for edit in EDITS if edit[0] == program]
+        return [first] + [tried(folder, *edit) for edit in edits]
+
+
+def jobs(programs):
+    """The programs, each with all its edits or, where it has more, with some of them at a time."""
+    for program in programs:
+        edits = [edit for edit in EDITS if edit[0] == program]
+        for first in range(0, len(edits), AT_A_TIME):
+            yield program, edits[first:first + AT_A_TIME]
 
 
 def main():
-    programs, passed, failed = sys.argv[1:] or list(TRIES), 0, 0
+    todo, passed, failed = list(jobs(sys.argv[1:] or list(TRIES))), 0, 0
     with concurrent.futures.ThreadPoolExecutor(2) as pool:
-        for program, told in zip(programs, pool.map(answers, programs)):
+        for (program, _), told in zip(todo, pool.map(answers, todo)):
             for holds, words in told:
                 passed, failed = passed + holds, failed + (not holds)
                 print('%s, %s%s' % (program, words, '' if holds else ': FAILED'), flush=True)
