@@ -42,20 +42,32 @@ TRIES = {
     'sheet_to_text': [(bytes([1, 10, 2]), b'1\n10 2  # grant\n')],
 }
 
-# a program, whether the edit is harmless, old text, new text
+# a program, whether the edit is harmless, the file below crates, old text, new text
 EDITS = [
-    ('ocr_sheet', True, 'io::write_all(1, &lines[..used]);', 'io::write_all(0x1, &lines[..used]);'),
-    ('ocr_sheet', False, 'io::write_all(1, &lines[..used]);', 'io::write_all(2, &lines[..used]);'),
-    ('ocr_sheet', False, 'let mut next = Next::At(0, 0);', 'let mut next = Next::LastLine;'),
-    ('ocr_sheet', False, 'const SHEET: usize = 32768;', 'const SHEET: usize = 16384;'),
-    ('text_to_sheet', True, 'io::write_all(1, &out[..used]);', 'io::write_all(0x1, &out[..used]);'),
-    ('text_to_sheet', False, 'io::write_all(1, &out[..used]);', 'io::write_all(2, &out[..used]);'),
-    ('sheet_to_text', False, 'io::write_all(1, &out[..used]);', 'io::write_all(2, &out[..used]);'),
-    ('class_report', True, 'io::write_all(1, &lines[..filled]);', 'io::write_all(0x1, &lines[..filled]);'),
-    ('class_report', False, 'io::write_all(1, &lines[..filled]);', 'io::write_all(2, &lines[..filled]);'),
-    ('class_report', False, 'libc::read(0, &mut input[..most])', 'libc::read(3, &mut input[..most])'),
-    ('class_report', False, 'io::read_full(0, &mut room[from..to])', 'io::read_full(3, &mut room[from..to])'),
-    ('class_report', False, 'let mut turns = u64::MAX;', 'let mut turns = 4096u64;'),
+    ('ocr_sheet', True, 'ocr_sheet/src/main.rt',
+     'io::write_all(1, &lines[..used]);', 'io::write_all(0x1, &lines[..used]);'),
+    ('ocr_sheet', False, 'ocr_sheet/src/main.rt',
+     'io::write_all(1, &lines[..used]);', 'io::write_all(2, &lines[..used]);'),
+    ('ocr_sheet', False, 'ocr_sheet/src/main.rt',
+     'let mut next = Next::At(0, 0);', 'let mut next = Next::LastLine;'),
+    ('ocr_sheet', False, 'ocr_sheet/src/main.rt',
+     'const SHEET: usize = 32768;', 'const SHEET: usize = 16384;'),
+    ('text_to_sheet', True, 'text_to_sheet/src/main.rt',
+     'io::write_all(1, &out[..used]);', 'io::write_all(0x1, &out[..used]);'),
+    ('text_to_sheet', False, 'text_to_sheet/src/main.rt',
+     'io::write_all(1, &out[..used]);', 'io::write_all(2, &out[..used]);'),
+    ('sheet_to_text', False, 'sheet_to_text/src/main.rt',
+     'io::write_all(1, &out[..used]);', 'io::write_all(2, &out[..used]);'),
+    ('class_report', True, 'class_report/src/main.rt',
+     'io::write_all(1, &lines[..filled]);', 'io::write_all(0x1, &lines[..filled]);'),
+    ('class_report', False, 'class_report/src/main.rt',
+     'io::write_all(1, &lines[..filled]);', 'io::write_all(2, &lines[..filled]);'),
+    ('class_report', False, 'class_input/src/lib.rt',
+     'libc::read(0, &mut input[..most])', 'libc::read(3, &mut input[..most])'),
+    ('class_report', False, 'class_input/src/lib.rt',
+     'io::read_full(0, &mut room[from..to])', 'io::read_full(3, &mut room[from..to])'),
+    ('class_report', False, 'class_report/src/main.rt',
+     'let mut turns = u64::MAX;', 'let mut turns = 4096u64;'),
 ]
 
 # edits that are tried one after the other, in one copy of the tree
@@ -84,13 +96,12 @@ def is_right(folder, program):
     return all(run.stdout == wanted and run.stderr == b'' for run, wanted in runs)
 
 
-def tried(folder, program, harmless, old, new):
+def tried(folder, program, harmless, source, old, new):
     """Whether an edit is proved, and seen in an output exactly if it is wrong; and in words."""
-    sources = sorted(pathlib.Path(folder, 'crates', program, 'src').glob('*.rt'))
-    texts = [(path, path.read_text(encoding='utf-8')) for path in sources]
-    if sum(text.count(old) for _, text in texts) != 1:
-        return False, '`%s` does not stand once in its code' % old
-    path, text = next(found for found in texts if old in found[1])
+    path = pathlib.Path(folder, 'crates', source)
+    text = path.read_text(encoding='utf-8')
+    if text.count(old) != 1:
+        return False, '`%s` stands %d times in %s' % (old, text.count(old), source)
     path.write_text(text.replace(old, new), encoding='utf-8')
     proved, right = is_proved(folder, program), is_right(folder, program)
     path.write_text(text, encoding='utf-8')

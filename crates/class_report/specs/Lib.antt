@@ -1,3 +1,1 @@
-pub mod Ahead
-pub mod Window
-pub mod Reads
+pub mod Stepped

@@ -1,16 +1,14 @@
 // The class report program: reports the class file on standard input, in memory for two sheets.
-mod reading;
-
 use class::Report;
 use class::Stage;
 use class::Step;
-use reading::Window;
+use class_input::Window;
 ghost use Prim.Native.Nat.{_+_, _≤_};
 ghost use mathlib.Core.Path.{_≡_};
 ghost use lib.ListN.{length};
 ghost use Rattle.sheet.specs.Printing.{Ready};
 ghost use Rattle.text.specs.Put.{Put};
-ghost use Rattle.class_report.specs.Window.{stepOn};
+ghost use Rattle.class_report.specs.Stepped.{stepOn};
 
 // How many bytes of lines are gathered, at most, before they are written.
 const PART: usize = 16384;
@@ -60,7 +58,7 @@ fn main() {
     let mut memory = [0u64; session::names::WORDS];
     session::write_fresh(&mut memory);
     let mut room = [0u8; class::TWO_SHEETS];
-    let mut input = [0u8; reading::INPUT];
+    let mut input = [0u8; class_input::INPUT];
     let mut window = Window { from: 0, to: 0 };
     let mut lines = [0u8; PART];
     let mut filled = 0;
@@ -69,7 +67,7 @@ fn main() {
     let mut turns = u64::MAX;
     while 0 < turns {
         let place = class::free_half(report);
-        let handed = reading::read_asked(report, window, &mut input, place, &mut room);
+        let handed = class_input::read_asked(report, window, &mut input, place, &mut room);
         let step = gather(
             report,
             &room,

@@ -1,11 +1,11 @@
--- `class_report::reading::hand` meets its contract.
+-- `class_input::hand` meets its contract.
 use Prim.Native.Nat.{_+_, _-_}
 use native.Mathlib.Omega.{arith}
 use borrow.Rule.Slice.PartMut.{mid-len}
-use Rattle.class_report.specs.Reads.{least-both}
+use Rattle.class_input.specs.Reads.{least-both}
 use borrow.Author.Needs.{needs}
-use Rattle.class_report.proofs.reading.hand.Statement.{statement}
-use Rattle.class_report.proofs.reading.hand.Tie as tie
+use Rattle.class_input.proofs.hand.Statement.{statement}
+use Rattle.class_input.proofs.hand.Tie as tie
 
 sub-least-of : tie.Need-sub-least-of
 sub-least-of c = search needs

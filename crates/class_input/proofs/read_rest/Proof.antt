@@ -1,9 +1,9 @@
--- `class_report::reading::read_rest` meets its contract: nothing changes but what lies between the two places.
+-- `class_input::read_rest` meets its contract: nothing changes but what lies between the two places.
 use native.Mathlib.Omega.{arith}
-use Rattle.class_report.specs.Reads.{apart-read}
+use Rattle.class_input.specs.Reads.{apart-read}
 use borrow.Author.Needs.{needs}
-use Rattle.class_report.proofs.reading.read_rest.Statement.{statement}
-use Rattle.class_report.proofs.reading.read_rest.Tie as tie
+use Rattle.class_input.proofs.read_rest.Statement.{statement}
+use Rattle.class_input.proofs.read_rest.Tie as tie
 
 sub-read-full : tie.Need-sub-read-full
 sub-read-full c = search needs

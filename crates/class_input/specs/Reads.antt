@@ -1,4 +1,4 @@
--- What the class program reads keeps what it promises of it: laws about the window and about a step.
+-- What the class program reads keeps what it promises of it: laws about the window.
 use Prim.Native.Nat.{ℕ, _+_, _-_, _≤_, _<_}
 use mathlib.Core.List.{List, [], _++_, append-assoc, append-nil}
 use mathlib.Core.Path.{_≡_, refl, ap, sym, subst, _∙_}
@@ -11,15 +11,14 @@ use Rattle.number.specs.Number.{splice}
 use Rattle.number.specs.Splice.{splice-length, splice-before, splice-from, splice-behind}
 use Rattle.rules.specs.Formula.{Formula._≼_}
 use Rattle.rules.specs.FormulaLaws.{choose-case}
-use Rattle.session.specs.Table.{read}
 use Rattle.turns.specs.Places.{least}
 use Rattle.class.specs.declared.Report.{Report}
 use Rattle.class_rules.specs.Report.{mostBytes}
 use Rattle.class.specs.Steps.{asks}
-use Rattle.class.specs.Halves.{freeHalf, InHalf, Apart, free-most, pending-stays, free-half, does-half}
-use Rattle.class_report.specs.declared.reading.Window.{Window}
-use Rattle.class_report.specs.Ahead.{behind, Ahead, fewer-ahead, asked-ahead, step-ahead}
-use Rattle.class_report.specs.Window.{part, bytesOf, sizeOf, Inside, Filled, Given, stepOn}
+use Rattle.class.specs.Halves.{freeHalf, InHalf, Apart, free-most, pending-stays}
+use Rattle.class_input.specs.declared.Window.{Window}
+use Rattle.class_input.specs.Ahead.{behind, Ahead, fewer-ahead, asked-ahead}
+use Rattle.class_input.specs.Window.{part, bytesOf, sizeOf, Inside, Filled, Given}
 
 part-split : (l : List ℕ) (from mid to : ℕ) → from ≤ mid → mid ≤ to → part l from to ≡ part l from mid ++ part l mid to
 part-split l from mid to h k =
@@ -211,14 +210,3 @@ module _ (r : Report) (w full : Window) (place n k last : ℕ) (input input′ r
         few = few ended;
         stays = pending-stays room room′ n (r .pending) most half (subst (λ (at : ℕ). Apart room room′ at n) is apart);
       }
-
--- A step leaves the pending sheet in a half, and no more read than may lie there then.
-module _ (room : List ℕ) (place end : ℕ) (r next : Report) (memory : List ℕ) (e : next ≡ stepOn room place end r memory .report) where
-  pub step-half : length room ≡ 65536 → place ≡ freeHalf (r .pending) → InHalf (r .pending) → InHalf (next .pending)
-  step-half long is h =
-      let half = subst (λ (n : ℕ). (n ≡ 0) ⊎ (n ≡ mostBytes)) (sym is) (free-half (r .pending)) in
-      subst (λ (x : Report). InHalf (x .pending)) (sym e) (does-half room place (part room place end) r (read memory) (omega arith) half h)
-
-  pub stepped-ahead : (n : ℕ) → end ≤ length room → Ahead r (end - place + n) → Ahead next n
-  stepped-ahead n inside a =
-      subst (λ (x : Report). Ahead x n) (sym e) (step-ahead r n room place (part room place end) (read memory) (rw (part-length room place end inside) a))

@@ -6,8 +6,8 @@ ghost use lib.ListN.{length};
 ghost use Rattle.number.specs.Number.{splice};
 ghost use Rattle.turns.specs.Places.{least};
 ghost use Rattle.class.specs.Halves.{InHalf, Apart, freeHalf};
-ghost use Rattle.class_report.specs.Ahead.{behind, Ahead};
-ghost use Rattle.class_report.specs.Window.{part, Inside, Filled, Given};
+ghost use Rattle.class_input.specs.Ahead.{behind, Ahead};
+ghost use Rattle.class_input.specs.Window.{part, Inside, Filled, Given};
 
 // How many bytes are read ahead at most: a byte, and those of so many entries.
 pub const INPUT: usize = 16384;

@@ -1,14 +1,14 @@
--- `class_report::reading::read_asked` meets its contract.
+-- `class_input::read_asked` meets its contract.
 use Prim.Native.Nat.{_-_}
 use mathlib.Core.Path.{refl, sym, _∙_}
 use mathlib.Core.Logic.{inl, inr}
 use native.Mathlib.Omega.{arith}
 use Rattle.class.specs.Halves.{free-most}
-use Rattle.class_report.specs.Reads.{least-both, apart-same, given-none, given-read}
+use Rattle.class_input.specs.Reads.{least-both, apart-same, given-none, given-read}
 use borrow.Author.Tests.{eqb-false}
 use borrow.Author.Needs.{needs}
-use Rattle.class_report.proofs.reading.read_asked.Statement.{statement}
-use Rattle.class_report.proofs.reading.read_asked.Tie as tie
+use Rattle.class_input.proofs.read_asked.Statement.{statement}
+use Rattle.class_input.proofs.read_asked.Tie as tie
 
 asks-requires : tie.Need-asks-requires
 asks-requires c κs = search needs

@@ -1,12 +1,12 @@
--- `class_report::reading::fill` meets its contract: a window that was empty holds what came.
+-- `class_input::fill` meets its contract: a window that was empty holds what came.
 use Prim.Native.Nat.{_≤_}
 use mathlib.Core.Path.{sym}
 use native.Mathlib.Omega.{arith}
 use lib.Seq.{length-take-le}
-use Rattle.class_report.specs.Reads.{filled-same, filled-new}
+use Rattle.class_input.specs.Reads.{filled-same, filled-new}
 use borrow.Author.Needs.{needs}
-use Rattle.class_report.proofs.reading.fill.Statement.{statement}
-use Rattle.class_report.proofs.reading.fill.Tie as tie
+use Rattle.class_input.proofs.fill.Statement.{statement}
+use Rattle.class_input.proofs.fill.Tie as tie
 
 returns : tie.Need-returns
 returns c = let s = c .before .before .before in filled-same (s .args .window) (s .args .left) (s .args .input .now) (s .pre .1)

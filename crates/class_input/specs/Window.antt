@@ -4,12 +4,11 @@ use mathlib.Core.List.{List, _++_}
 use mathlib.Core.Path.{_≡_}
 use mathlib.Core.Logic.{_⊎_}
 use lib.ListN.{length, take, drop}
-use Rattle.session.specs.Table.{read}
 use Rattle.class.specs.declared.Report.{Report}
-use Rattle.class.specs.Steps.{Did, pendingIn, asks, does}
-use Rattle.class_report.specs.declared.reading.Window.{Window}
-use Rattle.class_report.specs.declared.reading.Handed.{Handed}
-use Rattle.class_report.specs.Ahead.{behind, Ahead}
+use Rattle.class.specs.Steps.{pendingIn, asks}
+use Rattle.class_input.specs.declared.Window.{Window}
+use Rattle.class_input.specs.declared.Handed.{Handed}
+use Rattle.class_input.specs.Ahead.{behind, Ahead}
 
 -- what lies in a memory from one place to another
 abbrev pub part : List ℕ → ℕ → ℕ → List ℕ
@@ -45,7 +44,3 @@ pub record Given (r : Report) (w : Window) (place : ℕ) (input input′ room ro
   pub order : part room′ place (h .end) ++ bytesOf (h .window) input′ ≡ bytesOf w input ++ came
   pub few : Ahead r (h .end - place + sizeOf (h .window))
   pub stays : pendingIn room′ (r .pending) ≡ pendingIn room (r .pending)
-
--- the step on what lies between two places of the memory
-abbrev pub stepOn : List ℕ → ℕ → ℕ → Report → List ℕ → Did
-stepOn room place end r memory = does room place (part room place end) r (read memory)
