@@ -15,7 +15,6 @@ use Rattle.session.specs.Table.{Session}
 use Rattle.sheet_counts.specs.declared.Tally.{Tally}
 use Rattle.class_rules.specs.Report.{mostBytes, fits}
 use Rattle.class.specs.declared.Report.{Report}
-use Rattle.class.specs.declared.Turned.{Turned}
 use Rattle.class.specs.declared.Pending.{Pending}
 use Rattle.class.specs.declared.Pending.the-variants.{Nobody, Somebody}
 use Rattle.class.specs.declared.Stage.{Stage}
@@ -46,7 +45,7 @@ pub ahead-begun : Ahead begun 0
 unfolding begun aheadAt
 ahead-begun = (refl, refl)
 
--- Before the sums nothing lies there; after them neither.
+-- Where the sums have been printed, all that was read has been handed.
 pub none-ahead : (r : Report) (n : ℕ) → r .stage ≡ Nothing → r .stop ≡ 0 → Ahead r n → n ≡ 0
 unfolding aheadAt
 none-ahead r n over sums a = rw over at a sums

@@ -43,6 +43,9 @@ least-both a b = choose-case (λ (m : ℕ). (m ≤ a) × (m ≤ b)) (a ≼ b) a 
 least-either : (a b : ℕ) → (least a b ≡ a) ⊎ (least a b ≡ b)
 least-either a b = choose-case (λ (m : ℕ). (m ≡ a) ⊎ (m ≡ b)) (a ≼ b) a b (λ _. inl refl) (λ _. inr refl)
 
+pub is-least : (a b k : ℕ) → (a ≤ b → k ≡ a) → (b ≤ a → k ≡ b) → k ≡ least a b
+is-least a b k below above = choose-case (λ (m : ℕ). k ≡ m) (a ≼ b) a b below (λ n. above (omega arith))
+
 -- the window as it was, and one that was read where it was empty
 module _ (w : Window) (left : ℕ) (input : List ℕ) where
   pub filled-same : Inside w input → Filled w left input input w

@@ -9,7 +9,7 @@ ghost use Rattle.class.specs.Halves.{InHalf, Apart, freeHalf};
 ghost use Rattle.class_input.specs.Ahead.{behind, Ahead};
 ghost use Rattle.class_input.specs.Window.{part, Inside, Filled, Given};
 
-// How many bytes are read ahead at most: a byte, and those of so many entries.
+// How many bytes are read ahead at most; the numbers of more entries than these take as many.
 pub const INPUT: usize = 16384;
 
 const ENTRIES: u64 = 5461;
@@ -26,9 +26,9 @@ pub struct Handed {
     pub window: Window,
 }
 
-// How many bytes may be read where one is asked for: that one, and the numbers of the entries behind this one.
-fn sure(left: u64) -> usize
-    ensures few { λ r. ⌜ r ≤ 1 + behind left ⌝ }
+// How many bytes may be read where one is asked for: that one, and a byte for each number of the entries behind this one.
+fn may_read(left: u64) -> usize
+    ensures told { λ r. ⌜ r ≡ least (1 + behind left) 16384 ⌝ }
     ensures most { λ r. ⌜ r ≤ 16384 ⌝ }
 {
     if left == 0 {
@@ -48,7 +48,7 @@ fn fill(window: Window, left: u64, input: &mut [u8]) -> Window
     if window.from < window.to {
         return window;
     }
-    let most = sure(left);
+    let most = may_read(left);
     let got = libc::read(0, &mut input[..most]);
     Window {
         from: 0,
@@ -81,7 +81,7 @@ fn read_rest(room: &mut [u8], from: usize, to: usize) -> usize
 }
 
 // Puts what a report asks for into the half of the memory in which no pending sheet lies, which stays as it is: what was read and not
-// handed yet comes first.
+// handed yet comes first. Internal: callers have shown that no more was read than may be, and where the pending sheet lies.
 pub fn read_asked(
     report: Report,
     window: Window,
