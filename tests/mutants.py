@@ -96,6 +96,9 @@ MUTANTS = [
      'Effects', 'doomed and not (isHeld s b)) blockDestroyed', 'doomed and not (isHeld s b)) doomed'),
     ('grant-checks-one-slot', ('sound', 'compatible', 2), TWO_SLOTS + [(5, 2, 0, 4, 0, 1), (5, 2, 1, 4, 1, 3), (10, 4)],
      'Checks', '(each (s TaskSlots t) (λ j. slotFree t (at t j)))', '(each 1 (λ j. slotFree t (at t j)))'),
+    # what check 18 asks no longer keeps what soundness asks
+    ('hold-in-RW-stops-nobody', ('sound', 'compatible', 2), ONE_SLOT + [(5, 2, 1, 4, 0, 3), (10, 4)],
+     'Modes', 'stoppedBy asked held = conflict asked held', 'stoppedBy asked held = conflict asked held and 3 ≼ held'),
     ('latch-fires-at-1', ('sound', 'latches', 2), RUNS + [(3, 2, 4), (6, 2, 3, 0, 1)],
      'Effects', 'choose (n ≐ evenTally) (fireOne r e 0) r', 'choose (n ≐ evenTally + 1) (fireOne r e 0) r'),
     ('drop-counts-twice', ('sound', 'dropped', 2),
@@ -109,6 +112,7 @@ HARMLESS = [
     ('grant-holds-one-slot', '((i / 16 ≐ t) and (1 ≼ s SlotPayload i)) held', '((1 ≼ s SlotPayload i) and (i / 16 ≐ t)) held'),
     ('grant-checks-one-slot', '(each (s TaskSlots t) (λ j. slotFree t (at t j)))', '(each 16 (λ j. slotFree t (at t j)))'),
     ('start-from-resolved', '(s TaskState t ≐ granted) ∷ []', '(granted ≐ s TaskState t) ∷ []'),
+    ('hold-in-RW-stops-nobody', 'stoppedBy asked held = conflict asked held', 'stoppedBy asked held = conflict held asked'),
 ]
 
 # of each claim: the claim itself; what is computed with it; the law of Counterexample.antt.txt that refutes demand 3
@@ -164,9 +168,9 @@ def copy_of_session(folder):
 def copy_of_rules(folder):
     """The definitions in a repository of their own: the files that demand 3 needs, and of the code the types."""
     crates = os.path.join(folder, 'crates')
-    shutil.copytree(os.path.join(RULES, 'src'), os.path.join(crates, 'rules', 'src'))
-    lib = text_of(os.path.join(RULES, 'src', 'lib.rt'))
-    write(os.path.join(crates, 'rules', 'src', 'lib.rt'), FUNCTION.sub('', re.sub(r'ghost use .*\n', '', lib)))
+    for name in os.listdir(os.path.join(RULES, 'src')):
+        code = text_of(os.path.join(RULES, 'src', name))
+        write(os.path.join(crates, 'rules', 'src', name), FUNCTION.sub('', re.sub(r'ghost use .*\n', '', code)))
     for name in modules():
         write(os.path.join(crates, 'rules', 'specs', name + '.antt'), text_of(spec(name)))
     write(os.path.join(crates, 'rules', 'specs', 'Lib.antt'), ''.join('pub mod %s\n' % name for name in modules()))

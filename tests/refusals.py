@@ -1,7 +1,8 @@
 #!/usr/bin/env python3
 """refusals.py PROGRAM: runs every example of docs/REFUSALS.md through a sheet program.
 
-The last answer line of each must have the refusal that the example stands under. Prints `N passed, M failed`.
+The last answer line of each must have the refusal that the example stands under. The mode rule's sentence stands under 18 word for
+word as it stands over the definition `conflict`. Prints `N passed, M failed`.
 """
 import os
 import re
@@ -11,18 +12,34 @@ import sys
 sys.path.insert(0, os.path.dirname(os.path.abspath(__file__)))
 import sheets  # noqa: E402  (the reader of sheet lines, in this folder)
 
-PAGE = os.path.join(os.path.dirname(os.path.dirname(os.path.abspath(__file__))), 'docs', 'REFUSALS.md')
+ROOT = os.path.dirname(os.path.dirname(os.path.abspath(__file__)))
+PAGE = os.path.join(ROOT, 'docs', 'REFUSALS.md')
+MODES = os.path.join(ROOT, 'crates', 'rules', 'specs', 'Modes.antt')
 STARTED = ['1', '10 2', '11 2']
 NO_SHEET = {1, 2, 19, 22, 23}
 
 
-def examples():
-    """The refusals of the page, each with the lines of its example (none where no sheet gives it)."""
-    with open(PAGE) as file:
-        parts = re.split(r'^### (\d+)$', file.read(), flags=re.M)
-    for number, body in zip(parts[1::2], parts[2::2]):
-        block = re.search(r'```\n(.*?)```', body, re.S)
-        yield int(number), block.group(1).splitlines() if block else []
+def text_of(path):
+    with open(path, encoding='utf-8') as file:
+        return file.read()
+
+
+def refusals():
+    """The refusals of the page, each with what stands under it."""
+    parts = re.split(r'^### (\d+)$', text_of(PAGE), flags=re.M)
+    return [(int(number), body) for number, body in zip(parts[1::2], parts[2::2])]
+
+
+def example_in(body):
+    """The lines of an example, none where no sheet gives the refusal."""
+    block = re.search(r'```\n(.*?)```', body, re.S)
+    return block.group(1).splitlines() if block else []
+
+
+def has_mode_rule(body):
+    """Whether the sentence quoted over the definition of a conflict is there, wherever lines break."""
+    quoted = re.search(r'^-- "([^"]+)"[^\n]*\nabbrev pub conflict :', text_of(MODES), re.M).group(1)
+    return quoted + '.' in ' '.join(body.split())
 
 
 def answered(program, lines, whole):
@@ -38,8 +55,9 @@ def main():
         print(__doc__)
         return 2
     passed, failed, seen = 0, 0, set()
-    for number, lines in examples():
+    for number, body in refusals():
         seen.add(number)
+        lines = example_in(body)
         if number in NO_SHEET and not lines:
             continue
         got = answered(sys.argv[1], lines, number == 5) if lines else None
@@ -48,6 +66,11 @@ def main():
         else:
             failed += 1
             print('docs/REFUSALS.md: the example of %d gives %s' % (number, got))
+        if number == 18 and has_mode_rule(body):
+            passed += 1
+        elif number == 18:
+            failed += 1
+            print('docs/REFUSALS.md: under 18 the mode rule is not told in the words of its definition')
     if seen != set(range(1, 24)):
         failed += 1
         print('docs/REFUSALS.md: not every refusal from 1 to 23 is there')

@@ -1,4 +1,4 @@
--- What a grant looks at: the task as a record, and the holds that conflict with its pre-slots.
+-- What a grant looks at: the task as a record, and the holds that stop its pre-slots.
 use Prim.Native.Nat.{ℕ, zero, suc, _+_, _-_, _<_}
 use mathlib.Core.Path.{_≡_}
 use mathlib.Core.List.{List, [], _∷_, _++_}
@@ -7,11 +7,11 @@ use lib.ListN.{length, set, take}
 use lib.Seq.{take-suc-set}
 use Rattle.session.specs.Table.{Session, at}
 use Rattle.session.specs.declared.Field.the-variants.{TaskState, TaskCreator, TaskSlots, TaskFinish, TaskOutput, BlockCreator, BlockHeld, SlotMode, SlotMark, SlotPayload}
-use Rattle.session.specs.Names.{held, modeRW}
+use Rattle.session.specs.Names.{held, modeRO, modeRW}
 use Rattle.rules.specs.declared.Slot.{Slot}
 use Rattle.rules.specs.declared.Task.{Task}
 use Rattle.rules.specs.Formula.{Formula, not, Formula._≐_, Formula._and_, Formula._or_, Formula.each, Formula.some}
-use Rattle.rules.specs.Reading.{conflict}
+use Rattle.rules.specs.Modes.{stoppedBy}
 use Rattle.rules.specs.Checks.{orNull, remains, slotFree}
 
 -- the slot at place i
@@ -39,27 +39,23 @@ pub upTo-more : {A : Type 0} (l : List A) (j : ℕ) (f : ℕ → A) → j < leng
 unfolding upTo
 upTo-more l j f h e = rw (add-one, take-suc-set l j (f j), e)
 
--- the mode that conflicts with none
-abbrev pub modeRO : ℕ
-modeRO = 1
-
--- a pre-slot that asks for a block in a mode that conflicts with some other
+-- a pre-slot that asks for a block in a mode that some hold stops
 abbrev pub isClaim : Slot → Formula
 isClaim p = not (p .payload ≐ 0) and not (p .mode ≐ modeRO)
 
 abbrev pub hasClaim : Session → ℕ → Formula
 hasClaim s t = some (s TaskSlots t) (λ j. isClaim (slotAt s (at t j)))
 
--- pre-slot p asks for the block that slot q of another task holds, in conflict with it
+-- pre-slot p asks for the block that slot q of another task holds, which stops it
 abbrev pub clash : Slot → Slot → Formula
-clash p q = q .payload ≐ p .payload and conflict (p .mode) (q .mode)
+clash p q = q .payload ≐ p .payload and stoppedBy (p .mode) (q .mode)
 
--- pre-slot p of t asks for a block that another task holds since its creation, in conflict with it
+-- pre-slot p of t asks for a block that another task holds since its creation, which stops it
 abbrev pub makerClash : Session → ℕ → Slot → Formula
 makerClash s t p =
-    not (p .payload ≐ 0) and s BlockHeld (p .payload) ≐ 1 and not (s BlockCreator (p .payload) ≐ t) and conflict (p .mode) modeRW
+    not (p .payload ≐ 0) and s BlockHeld (p .payload) ≐ 1 and not (s BlockCreator (p .payload) ≐ t) and stoppedBy (p .mode) modeRW
 
--- what pre-slot p of t asks for conflicts with the hold at place k; place 0 is no task's, and stands for the hold from creation
+-- the hold at place k stops what pre-slot p of t asks for; place 0 is no task's, and stands for the hold from creation
 abbrev pub holdClash : Session → ℕ → Slot → ℕ → Formula
 holdClash s t p k = k ≐ 0 and makerClash s t p or not (k ≐ 0) and s SlotMark k ≐ held and clash p (slotAt s k)
 

@@ -11,17 +11,18 @@ use lib.ListN.{length, getD, length-append, List·getD-append}
 use lib.Seq.{getD-at}
 use Rattle.session.specs.Table.{Session, at}
 use Rattle.session.specs.declared.Field.the-variants.{Objects, TaskState, TaskSlots, SlotMode, SlotMark, SlotPayload}
-use Rattle.session.specs.Names.{resolved, granted, running, held}
+use Rattle.session.specs.Names.{resolved, granted, running, held, modeRO}
 use Rattle.rules.specs.declared.Slot.{Slot}
 use Rattle.rules.specs.declared.Task.{Task}
 use Rattle.rules.specs.Formula.{Formula, holds, not, test, Formula._≐_, Formula._and_}
-use Rattle.rules.specs.FormulaLaws.{Case, decide, failed, test-same, Case.it-does, Case.it-does-not}
-use Rattle.rules.specs.Reading.{conflict}
+use Rattle.rules.specs.FormulaLaws.{Case, decide, test-same, Case.it-does, Case.it-does-not}
+use Rattle.rules.specs.Modes.{stoppedBy}
+use Rattle.rules.specs.ModeLaws.{stopped-not-RO}
 use Rattle.rules.specs.Checks.{slotFree}
 use Rattle.rules.specs.Sound.{sound, taskPart}
 use Rattle.checks.specs.SoundParts.{Hold, hold-at, few-objects, sound-objects}
 use Rattle.checks.specs.Holders.{Passed, Listed, isHold, placeOf, reach, place-few, place-first, place-number}
-use Rattle.checks.specs.Granting.{slotAt, taskAt, upTo, modeRO, isClaim, clash, makerClash, holdClash}
+use Rattle.checks.specs.Granting.{slotAt, taskAt, upTo, isClaim, clash, makerClash, holdClash}
 
 length-upTo : {A : Type 0} (n : ℕ) (f : ℕ → A) → length (upTo n f) ≡ n
 unfolding upTo
@@ -88,7 +89,7 @@ pub no-hold : (s : Session) (t : ℕ) (p : Slot) (k : ℕ) → (k ≡ 0 → ⊥)
 no-hold s t p k n m (inl x) = n (x .0)
 no-hold s t p k n m (inr x) = m (x .1 .0)
 
--- no hold with a number below q conflicts with what pre-slot p of t asks for
+-- no hold with a number below q stops what pre-slot p of t asks for
 abbrev pub Scanned : Session → ℕ → Slot → List ℕ → ℕ → Type 0
 Scanned s t p g q = Through (λ i. not (holdClash s t p (placeOf g i))) q
 
@@ -131,7 +132,7 @@ module _ (s : Session) (t j : ℕ) (h : holds (sound s)) (g : List ℕ) (n : ℕ
   free-scanned q up few c claim =
       inr ((λ x. slot (x .0) (x .1) (x .2)), λ x. c .all 0 (let m = y .some in omega arith) (inl (place-first s g n y, (claim .0, x))))
     where
-      slot : (k : ℕ) → k < 16 * (s Objects 0 + 1) → holds (not (k / 16 ≐ t) and s SlotMark k ≐ held and s SlotPayload k ≐ s SlotPayload (at t j) and conflict (s SlotMode (at t j)) (s SlotMode k)) → ⊥
+      slot : (k : ℕ) → k < 16 * (s Objects 0 + 1) → holds (not (k / 16 ≐ t) and s SlotMark k ≐ held and s SlotPayload k ≐ s SlotPayload (at t j) and stoppedBy (s SlotMode (at t j)) (s SlotMode k)) → ⊥
       slot k low x = go (place-number s g n y k (let m = o .made in omega arith) (o .owner))
         where
           o : Hold s k
@@ -158,11 +159,6 @@ module _ (s : Session) (t j : ℕ) (h : holds (sound s)) (g : List ℕ) (n : ℕ
       go : Hold s (placeOf g q) → ⊥
       go o = z .0 (placeOf g q, (let m = o .made in omega arith), (other (placeOf g q) (o .owner), x .1))
 
--- RO conflicts with no mode
-ro-conflicts : (a b : ℕ) → a ≡ modeRO → holds (conflict a b) → ⊥
-unfolding test
-ro-conflicts a b e h = failed (conflict modeRO b) refl (rw e at h)
-
 -- what a pre-slot that claims nothing asks for is free
 pub free-unclaimed : (s : Session) (t i : ℕ) → (holds (isClaim (slotAt s i)) → ⊥) → holds (slotFree s t i)
 unfolding slotAt
@@ -170,5 +166,5 @@ free-unclaimed s t i n = go (decide (s SlotPayload i ≐ 0)) (decide (s SlotMode
   where
     go : Case (s SlotPayload i ≐ 0) → Case (s SlotMode i ≐ modeRO) → holds (slotFree s t i)
     go (it-does z) d = inl z
-    go (it-does-not z) (it-does o) = inr ((λ x. ro-conflicts _ _ o (x .2 .1 .1 .1)), λ x. ro-conflicts _ _ o (x .1 .1))
+    go (it-does-not z) (it-does o) = inr ((λ x. stopped-not-RO _ _ (x .2 .1 .1 .1) o), λ x. stopped-not-RO _ _ (x .1 .1) o)
     go (it-does-not z) (it-does-not o) = absurd (n (z, o))

@@ -7,6 +7,7 @@ use crate::objects::remains_or_null;
 use reading::of_object;
 use rules::Slot;
 use rules::Task;
+use rules::modes::is_stopped;
 use session::Field;
 use session::names;
 ghost use mathlib.Core.Path.{_≡_};
@@ -63,7 +64,7 @@ fn task_at(s: &[u64], t: usize) -> Task
     }
 }
 
-// Whether a pre-slot asks for a block in a mode that conflicts with some other: RO does with none.
+// Whether a pre-slot asks for a block in a mode that some hold stops: none stops RO.
 fn is_claim(slot: Slot) -> bool
     ensures { λ r. ⌜ r ≡ test (isClaim slot) ⌝ }
 {
@@ -88,17 +89,17 @@ fn has_claim(s: &[u64], t: u64) -> bool
     false
 }
 
-// Whether what the slot asks for conflicts with a hold of another task.
+// Whether the hold of another task stops what the slot asks for.
 fn clashes(slot: Slot, hold: Slot) -> bool
     ensures { λ r. ⌜ r ≡ test (clash slot hold) ⌝ }
 {
     if hold.payload != slot.payload {
         return false;
     }
-    rules::conflicts(slot.mode, hold.mode)
+    is_stopped(slot.mode, hold.mode)
 }
 
-// Whether another task holds the slot's block since it made it, in conflict with the slot's mode.
+// Whether another task holds the slot's block since it made it, and so stops what the slot asks for.
 fn maker_clashes(s: &[u64], t: u64, slot: Slot) -> bool
     requires { ⌜ words ≤ length (now s) ⌝ }
     ensures { λ r. ⌜ r ≡ test (makerClash (read (now (s .entry))) t slot) ⌝ }
@@ -112,10 +113,10 @@ fn maker_clashes(s: &[u64], t: u64, slot: Slot) -> bool
     if of_object(s, Field::BlockCreator, slot.payload) == t {
         return false;
     }
-    rules::conflicts(slot.mode, names::RW)
+    is_stopped(slot.mode, names::RW)
 }
 
-// Whether what the slot asks for conflicts with the hold at place k. Place 0 is no task's, and stands for the hold from the
+// Whether the hold at place k stops what the slot asks for. Place 0 is no task's, and stands for the hold from the
 // creation of the slot's block.
 fn hold_clashes(s: &[u64], t: u64, slot: Slot, k: usize) -> bool
     requires { ⌜ (words ≤ length (now s)) × (k < 8208) ⌝ }
@@ -146,7 +147,7 @@ pub fn blocks_remain(s: &[u64], t: u64) -> bool
     true
 }
 
-// Whether no hold of another task conflicts with what the pre-slots ask for: a scan over the pre-slots and, for each that asks
+// Whether no hold of another task stops what the pre-slots ask for: a scan over the pre-slots and, for each that asks
 // for more than reading, over the holds, left at the first pair in conflict. A resolved task holds nothing, so every hold is
 // another task's.
 pub fn is_free(s: &[u64], t: u64) -> bool

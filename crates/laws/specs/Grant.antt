@@ -1,5 +1,5 @@
 -- A grant keeps a session: a resolved task holds all blocks of its slots from now on, none of them destroyed (check 17) and
--- none held by another task in a mode that conflicts (check 18).
+-- none held by another task in a mode that stops it (check 18): then no two holds conflict.
 use Prim.Native.Nat.{ℕ, _+_, _*_, _/_, _%_, _≤_, _<_}
 use mathlib.Core.Path.{_≡_, ap, sym, subst, _∙_}
 use mathlib.Core.Logic.{_⊎_, inl, inr}
@@ -9,7 +9,9 @@ use Rattle.session.specs.declared.Field.the-variants.{Objects, Kind, TaskState,
 use Rattle.rules.specs.Formula.{Formula, holds, Formula._≐_, Formula._≼_, Formula._and_}
 use Rattle.rules.specs.FormulaLaws.{Case, decide, choose-yes, choose-no, Case.it-does, Case.it-does-not}
 use Rattle.session.specs.Names.{task, waiting, resolved, granted, running, ended, held, blockDestroyed, taskDestroyed, modeRW}
-use Rattle.rules.specs.Reading.{at, isGone, isHeld, conflict}
+use Rattle.rules.specs.Reading.{at, isGone, isHeld}
+use Rattle.rules.specs.Modes.{conflict}
+use Rattle.rules.specs.ModeLaws.{conflict-swap, conflict-stops}
 use Rattle.rules.specs.Checks.{grantChecks, slotFree}
 use Rattle.rules.specs.Effects.{grant}
 use Rattle.rules.specs.Sound.{kept, objects, slots, states, state, full, blocks, compatible, unused, outputs}
@@ -19,15 +21,6 @@ use Rattle.laws.specs.Met.{met}
 use Rattle.laws.specs.Moving.{move, Moved, after-move, still, move-creators, move-outputs, move-taskPart, move-objects, Moved.state-stays, Moved.state-moves}
 use Rattle.laws.specs.Places.{put-here}
 use Rattle.laws.specs.SlotPlaces.{at-div, place-split, place-low, few-slots}
-
-pub conflict-sym : (a b : ℕ) → holds (conflict a b) → holds (conflict b a)
-conflict-sym a b (inl x) = inr (inl (x .1, x .0))
-conflict-sym a b (inr (inl x)) = inl (x .1, x .0)
-conflict-sym a b (inr (inr (inl x))) = inr (inr (inl (x .1, x .0)))
-conflict-sym a b (inr (inr (inr (inl x)))) = inr (inr (inr (inr (inl (x .1, x .0)))))
-conflict-sym a b (inr (inr (inr (inr (inl x))))) = inr (inr (inr (inl (x .1, x .0))))
-conflict-sym a b (inr (inr (inr (inr (inr (inl x)))))) = inr (inr (inr (inr (inr (inr (x .1, x .0))))))
-conflict-sym a b (inr (inr (inr (inr (inr (inr x)))))) = inr (inr (inr (inr (inr (inl (x .1, x .0))))))
 
 -- a slot's mark after
 data After (s : Session) (t i : ℕ) : Type 0 where
@@ -145,7 +138,7 @@ module _ (s : Session) (t : ℕ) (c : met (grantChecks s t)) (r : Rest s) where
     where
       go : holds (slotFree s t i) → ⊥
       go (inl z) = omega arith
-      go (inr y) = y .0 (k, l, (n, (h, (e, x))))
+      go (inr y) = y .0 (k, l, (n, (h, (e, conflict-stops _ _ x))))
 
   grant-compatible : holds (compatible (grant s t))
   unfolding grant put change
@@ -154,7 +147,7 @@ module _ (s : Session) (t : ℕ) (c : met (grantChecks s t)) (r : Rest s) where
       two : (k : ℕ) → k < i → grant s t SlotMark k ≡ held → (k / 16 ≡ i / 16 → ⊥) → s SlotPayload k ≡ s SlotPayload i → holds (conflict (s SlotMode i) (s SlotMode k)) → After s t i → After s t k → ⊥
       two k b g n e x (same m q) (same m′ q′) = r .compatible i l (sym q ∙ h) .0 k b (sym q′ ∙ g, (n, (e, x)))
       two k b g n e x (taken o p q) (same m′ q′) = apart i k o p (omega arith) (λ z. n (z ∙ sym o)) (sym q′ ∙ g) e x
-      two k b g n e x (same m q) (taken o p q′) = apart k i o p l (λ z. n (o ∙ sym z)) (sym q ∙ h) (sym e) (conflict-sym (s SlotMode i) (s SlotMode k) x)
+      two k b g n e x (same m q) (taken o p q′) = apart k i o p l (λ z. n (o ∙ sym z)) (sym q ∙ h) (sym e) (conflict-swap (s SlotMode i) (s SlotMode k) x)
       two k b g n e x (taken o p q) (taken o′ p′ q′) = n (o′ ∙ sym o)
 
       made : s BlockHeld (s SlotPayload i) ≡ 1 → (s BlockCreator (s SlotPayload i) ≡ i / 16 → ⊥) → holds (conflict (s SlotMode i) modeRW) → After s t i → ⊥
@@ -163,7 +156,7 @@ module _ (s : Session) (t : ℕ) (c : met (grantChecks s t)) (r : Rest s) where
         where
           go : holds (slotFree s t i) → ⊥
           go (inl z) = omega arith
-          go (inr y) = y .1 (e, ((λ z. n (z ∙ sym o)), x))
+          go (inr y) = y .1 (e, ((λ z. n (z ∙ sym o)), conflict-stops _ _ x))
 
   grant-unused : holds (unused (grant s t))
   unfolding grant put change

@@ -1,5 +1,6 @@
 pub mod Places
 pub mod SlotPlaces
+pub mod SlotModes
 pub mod Met
 pub mod Cases
 pub mod Kept

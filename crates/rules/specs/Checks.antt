@@ -6,7 +6,8 @@ use Rattle.session.specs.Table.{Session}
 use Rattle.session.specs.declared.Field.the-variants.{Objects, Links, TemplateCount, TaskState, TaskSlots, BlockState, BlockCreator, BlockHeld, SlotMode, SlotMark, SlotPayload, LinkState}
 use Rattle.session.specs.Names.{mostObjects, mostLinks, template, task, event, block, unknownCount, resolved, granted, running, latch, ready, held, blockDestroyed, modeRW}
 use Rattle.rules.specs.Formula.{Formula, not, choose, Formula._≐_, Formula._≼_, Formula._and_, Formula._or_, Formula._then_, Formula.each, Formula.some}
-use Rattle.rules.specs.Reading.{at, made, isKind, isUserEvent, isRunning, isGone, hasSlot, holdsBlock, overflows, isFiredSticky, conflict}
+use Rattle.rules.specs.Reading.{at, made, isKind, isUserEvent, isRunning, isGone, hasSlot, holdsBlock, overflows, isFiredSticky}
+use Rattle.rules.specs.Modes.{stoppedBy}
 
 -- a check: its number, and what the operation must meet
 pub record Check : Type 0 where
@@ -98,12 +99,12 @@ module _ (s : Session) where
   abbrev pub deliverChecks : ℕ → List Check
   deliverChecks l = check 9 (1 ≼ l and l ≼ s Links 0) ∷ check 16 (s LinkState l ≐ ready) ∷ []
 
-  -- "A hold of another task conflicts": none conflicts with what slot i of task t asks for
+  -- "A hold of another task conflicts": none stops what slot i of task t asks for
   abbrev pub slotFree : ℕ → ℕ → Formula
   slotFree t i =
       s SlotPayload i ≐ 0
-      or not (some (16 * (s Objects 0 + 1)) (λ k. not (k / 16 ≐ t) and s SlotMark k ≐ held and s SlotPayload k ≐ s SlotPayload i and conflict (s SlotMode i) (s SlotMode k)))
-      and not (s BlockHeld (s SlotPayload i) ≐ 1 and not (s BlockCreator (s SlotPayload i) ≐ t) and conflict (s SlotMode i) modeRW)
+      or not (some (16 * (s Objects 0 + 1)) (λ k. not (k / 16 ≐ t) and s SlotMark k ≐ held and s SlotPayload k ≐ s SlotPayload i and stoppedBy (s SlotMode i) (s SlotMode k)))
+      and not (s BlockHeld (s SlotPayload i) ≐ 1 and not (s BlockCreator (s SlotPayload i) ≐ t) and stoppedBy (s SlotMode i) modeRW)
 
   -- "10 grant (task)"; 16: "grant resolved"; 17: "A pre-slot's block is doomed or destroyed"; 18: slotFree.
   abbrev pub grantChecks : ℕ → List Check

@@ -3,7 +3,8 @@ pub mod FormulaLaws
 pub mod Bools
 pub mod Reading
 pub mod Arity
-pub mod Conflicts
+pub mod Modes
+pub mod ModeLaws
 pub mod Checks
 pub mod Effects
 pub mod Sound

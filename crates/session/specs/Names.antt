@@ -102,6 +102,9 @@ abbrev pub cut : ℕ
 cut = 4
 
 -- Modes: 1 RO, 2 RW, 3 EW, 4 CONST.
+abbrev pub modeRO : ℕ
+modeRO = 1
+
 abbrev pub modeRW : ℕ
 modeRW = 2
 

@@ -4,7 +4,8 @@ use Rattle.session.specs.Table.{Session}
 use Rattle.session.specs.declared.Field.the-variants.{Objects, Links, Kind, TaskState, TaskFinish, TaskOutput, EventState, EventType, EventTally, BlockState, BlockCreator, BlockHeld, SlotMode, SlotMark, SlotPayload, LinkSource, LinkState}
 use Rattle.session.specs.Names.{ended, linkOpen, cut, eventOpen, destroyedUnfired, taskDestroyed, task, event, block, granted, running, fired, destroyedFired, doomed, blockDestroyed, delivered, latch, output, held, evenTally, modeRW}
 use Rattle.rules.specs.Formula.{Formula, not, _iff_, Formula._≐_, Formula._≼_, Formula._and_, Formula._or_, Formula._then_, Formula.each}
-use Rattle.rules.specs.Reading.{at, isKind, isHeld, conflict, busy}
+use Rattle.rules.specs.Reading.{at, isKind, isHeld, busy}
+use Rattle.rules.specs.Modes.{conflict}
 use Rattle.rules.specs.Sound.{templatePart, taskPart, eventPart, blockPart, creator, outputOf, isLink, noLink, noSlot, state}
 
 module _ (s : Session) where

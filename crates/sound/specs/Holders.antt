@@ -9,14 +9,15 @@ use lib.ListN.{set, getD, length, length-set}
 use lib.Seq.{getD-set-same, getD-set-other}
 use lib.Dec.{eqb}
 use borrow.Author.Tests.{eq-eqb, ne-eqb}
+use borrow.Author.Count.{below-none, below-more}
 use Rattle.session.specs.Table.{Session, pick}
 use Rattle.session.specs.declared.Field.the-variants.{SlotMode, SlotMark, SlotPayload}
 use Rattle.session.specs.Names.{held}
 use Rattle.rules.specs.Formula.{Formula, holds, test, Formula._≐_, Formula._and_, Formula._or_, Formula.each, Formula.some}
 use Rattle.rules.specs.Formula as formula
 use Rattle.rules.specs.FormulaLaws.{passes, fails, test-same}
-use Rattle.rules.specs.Reading.{conflict}
-use Rattle.rules.specs.Conflicts.{conflict-modes, Writes}
+use Rattle.rules.specs.Modes.{conflict, isMode}
+use Rattle.rules.specs.ModeLaws.{conflict-not-RO}
 use Rattle.laws.specs.Places.{Places, places, Places.one, Places.two}
 use Rattle.sound.specs.Bodies.{clash}
 use Rattle.rules.specs.Bools.{test-both, test-either, test-not}
@@ -67,14 +68,18 @@ module _ (s : Session) where
   abbrev pub other : ℕ → ℕ → ℕ → ℕ → Formula
   other i b c t = some i (otherAt b c t)
 
-  -- the row has the holders among the first i slots
+  abbrev Moded : ℕ → Type 0
+  Moded k = s SlotMark k ≡ held → holds (isMode (s SlotMode k))
+
+  -- the row has the holders among the first i slots, whose modes have a place in it
   pub record Holders (a : List ℕ) (i : ℕ) : Type 0 where
     pub size : length a ≡ 2052
+    pub modes : (k : ℕ) → k < i → Moded k
     pub says : (b c t : ℕ) → b < 513 → c < 4 → t ≤ 512 → isOther (getD a (cell b c) 0) t ≡ test (other i b (c + 1) t)
 
   pub holders-none : (a : List ℕ) → length a ≡ 2052 → ((p : ℕ) → p < 2052 → getD a p 0 ≡ 0) → Holders a 0
   holders-none a l z =
-      record { size = l; says = λ b c t p q r. rw (z (cell b c) (omega arith)) (sym (fails (other 0 b (c + 1) t) (λ x. let y = x .1 in omega arith))) }
+      record { size = l; modes = below-none (λ (k : ℕ). Moded k); says = λ b c t p q r. rw (z (cell b c) (omega arith)) (sym (fails (other 0 b (c + 1) t) (λ x. let y = x .1 in omega arith))) }
 
   -- a slot that holds nothing of that kind adds nothing
   other-same : (i b c t : ℕ) → (holds (otherAt b c t i) → ⊥) → test (other (i + 1) b c t) ≡ test (other i b c t)
@@ -82,7 +87,11 @@ module _ (s : Session) where
 
   pub holders-skip : (a : List ℕ) (i : ℕ) → Holders a i → (s SlotMark i ≡ held → ⊥) → Holders a (i + 1)
   holders-skip a i h n =
-      record { size = h .size; says = λ b c t p q r. h .says b c t p q r ∙ sym (other-same i b (c + 1) t (λ x. n (x .0))) }
+      record {
+        size = h .size;
+        modes = below-more (λ (k : ℕ). Moded k) i (h .modes) (λ e. absurd (n e));
+        says = λ b c t p q r. h .says b c t p q r ∙ sym (other-same i b (c + 1) t (λ x. n (x .0)));
+      }
 
   cell-same : (b c d e : ℕ) → c < 4 → e < 4 → cell b c ≡ cell d e → (b ≡ d) × (c ≡ e)
   cell-same b c d e p q x = (omega arith, omega arith)
@@ -91,7 +100,11 @@ module _ (s : Session) where
   pub holders-more : (a : List ℕ) (i : ℕ) → Holders a i → s SlotMark i ≡ held → s SlotPayload i < 513 → 1 ≤ s SlotMode i → s SlotMode i ≤ 4 → 1 ≤ i / 16 → i / 16 ≤ 512
       → Holders (set a (cell (s SlotPayload i) (s SlotMode i - 1)) (joined (getD a (cell (s SlotPayload i) (s SlotMode i - 1)) 0) (i / 16))) (i + 1)
   holders-more a i h m pl lo hi tl th =
-      record { size = length-set a _ _ ∙ h .size; says = λ b c t p q r. go b c t p q r (places (cell (s SlotPayload i) (s SlotMode i - 1)) (cell b c)) }
+      record {
+        size = length-set a _ _ ∙ h .size;
+        modes = below-more (λ (k : ℕ). Moded k) i (h .modes) (λ e. (lo, hi));
+        says = λ b c t p q r. go b c t p q r (places (cell (s SlotPayload i) (s SlotMode i - 1)) (cell b c));
+      }
     where
       x : ℕ
       x = cell (s SlotPayload i) (s SlotMode i - 1)
@@ -126,8 +139,8 @@ module _ (s : Session) where
       conflict (s SlotMode i) 2 and other i (s SlotPayload i) 2 (i / 16) or conflict (s SlotMode i) 3 and other i (s SlotPayload i) 3 (i / 16)
       or conflict (s SlotMode i) 4 and other i (s SlotPayload i) 4 (i / 16)
 
-  pub clashes-same : (i : ℕ) → test (clashesBy i) ≡ test (clashes i)
-  clashes-same i = test-same (clashesBy i) (clashes i) to from
+  pub clashes-same : (i : ℕ) → ((k : ℕ) → k < i → Moded k) → test (clashesBy i) ≡ test (clashes i)
+  clashes-same i m = test-same (clashesBy i) (clashes i) to from
     where
       one-way : (c : ℕ) → holds (conflict (s SlotMode i) c and other i (s SlotPayload i) c (i / 16)) → holds (clashes i)
       one-way c x =
@@ -149,20 +162,23 @@ module _ (s : Session) where
           k : ℕ
           k = y .0
 
-          w : Writes (s SlotMode i) (s SlotMode k)
-          w = conflict-modes (s SlotMode i) (s SlotMode k) (y .2 .1 .1 .1)
+          mode : holds (isMode (s SlotMode k))
+          mode = m k (y .1) (y .2 .0)
+
+          writes : s SlotMode k ≡ 1 → ⊥
+          writes = conflict-not-RO (s SlotMode i) (s SlotMode k) (y .2 .1 .1 .1)
 
           go : Places (s SlotMode k) 2 → Places (s SlotMode k) 3 → holds (clashesBy i)
           go (one e) z = inl (back k 2 (y .1) (y .2) e)
           go (two n) (one e) = inr (inl (back k 3 (y .1) (y .2) e))
-          go (two n) (two m) = inr (inr (back k 4 (y .1) (y .2) (let l = w .low′ in let h = w .high′ in omega arith)))
+          go (two n) (two o) = inr (inr (back k 4 (y .1) (y .2) (let l = mode .0 in let h = mode .1 in let w = writes in omega arith)))
 
   -- as code finds it from the row
-  pub clashes-found : (i : ℕ) (x y z : Bool) → x ≡ test (other i (s SlotPayload i) 2 (i / 16)) → y ≡ test (other i (s SlotPayload i) 3 (i / 16)) → z ≡ test (other i (s SlotPayload i) 4 (i / 16))
+  pub clashes-found : (i : ℕ) (x y z : Bool) → ((k : ℕ) → k < i → Moded k) → x ≡ test (other i (s SlotPayload i) 2 (i / 16)) → y ≡ test (other i (s SlotPayload i) 3 (i / 16)) → z ≡ test (other i (s SlotPayload i) 4 (i / 16))
       → ((test (conflict (s SlotMode i) 2) && x) || ((test (conflict (s SlotMode i) 3) && y) || (test (conflict (s SlotMode i) 4) && z))) ≡ test (clashes i)
-  clashes-found i x y z p q r =
+  clashes-found i x y z m p q r =
       rw (p, q, r)
-      (sym (sym (clashes-same i)
+      (sym (sym (clashes-same i m)
       ∙ test-either (conflict (s SlotMode i) 2 and other i (s SlotPayload i) 2 (i / 16)) (conflict (s SlotMode i) 3 and other i (s SlotPayload i) 3 (i / 16) or conflict (s SlotMode i) 4 and other i (s SlotPayload i) 4 (i / 16))
       ∙ rw (
         test-either (conflict (s SlotMode i) 3 and other i (s SlotPayload i) 3 (i / 16)) (conflict (s SlotMode i) 4 and other i (s SlotPayload i) 4 (i / 16)),

@@ -12,6 +12,7 @@ ghost use Rattle.sound.specs.Holders.{Holders, joined, isOther, cell, cl
 ghost use Rattle.sound.specs.Whole.{IsHeld};
 use reading::of_object;
 use reading::of_slot;
+use rules::modes::conflicts;
 use session::Field;
 use session::names;
 
@@ -23,7 +24,7 @@ fn clashes_with_maker(s: &[u64], i: u64) -> bool
     let block = of_slot(s, Field::SlotPayload, i);
     let mode = of_slot(s, Field::SlotMode, i);
     let other = !(of_object(s, Field::BlockCreator, block) == i / 16);
-    (of_object(s, Field::BlockHeld, block) == 1) & (other & rules::conflicts(mode, names::RW))
+    (of_object(s, Field::BlockHeld, block) == 1) & (other & conflicts(mode, names::RW))
 }
 
 // The holder noted once task u holds too: 513 where there is more than one.
@@ -57,9 +58,9 @@ fn does_clash(s: &[u64], row: &[u64; 2052], i: u64) -> bool
     let b = of_slot(s, Field::SlotPayload, i);
     let mode = of_slot(s, Field::SlotMode, i);
     let t = i / 16;
-    let rw = rules::conflicts(mode, names::RW) & is_other(row, b, 1, t);
-    let ew = rules::conflicts(mode, names::EW) & is_other(row, b, 2, t);
-    let constant = rules::conflicts(mode, names::CONST) & is_other(row, b, 3, t);
+    let rw = conflicts(mode, names::RW) & is_other(row, b, 1, t);
+    let ew = conflicts(mode, names::EW) & is_other(row, b, 2, t);
+    let constant = conflicts(mode, names::CONST) & is_other(row, b, 3, t);
     rw | (ew | constant)
 }
 

@@ -6,11 +6,11 @@ use Rattle.checks.proofs.granting.clashes.Tie as tie
 returns : tie.Need-returns
 returns c = wrong _ (λ x. c .if1 .taken (x .0))
 
-conflicts-requires : tie.Need-conflicts-requires
-conflicts-requires c κs = search needs
+is-stopped-requires : tie.Need-is-stopped-requires
+is-stopped-requires c κs = search needs
 
 returns-2 : tie.Need-returns-2
-returns-2 c = after _ _ (c .before .if1 .left) (c .conflicts .ensures)
+returns-2 c = after _ _ (c .before .if1 .left) (c .is-stopped .ensures)
 
 pub clashes-spec : {M : Type 1} → statement M
-clashes-spec = tie.close (tie.spec returns conflicts-requires returns-2)
+clashes-spec = tie.close (tie.spec returns is-stopped-requires returns-2)

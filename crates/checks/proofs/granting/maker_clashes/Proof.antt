@@ -20,14 +20,14 @@ of-object-requires-2 c κs = search needs
 returns-3 : tie.Need-returns-3
 returns-3 c = wrong _ (λ x. x .1 .1 .0 (sym (c .before .of-object2 .ensures) ∙ c .if3 .taken))
 
-conflicts-requires : tie.Need-conflicts-requires
-conflicts-requires c κs = search needs
+is-stopped-requires : tie.Need-is-stopped-requires
+is-stopped-requires c κs = search needs
 
 returns-4 : tie.Need-returns-4
 returns-4 c =
     let b = c .before .before .before .before .before .if1 in
-    after _ _ (b .left) (after _ _ (omega arith) (after _ _ (λ x. c .before .if3 .left (c .before .before .of-object2 .ensures ∙ x)) (c .conflicts .ensures)))
+    after _ _ (b .left) (after _ _ (omega arith) (after _ _ (λ x. c .before .if3 .left (c .before .before .of-object2 .ensures ∙ x)) (c .is-stopped .ensures)))
 
 pub maker-clashes-spec : {M : Type 1} → statement M
 maker-clashes-spec =
-    tie.close (tie.spec returns of-object-requires returns-2 of-object-requires-2 returns-3 conflicts-requires returns-4)
+    tie.close (tie.spec returns of-object-requires returns-2 of-object-requires-2 returns-3 is-stopped-requires returns-4)

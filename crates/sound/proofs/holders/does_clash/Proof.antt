@@ -43,7 +43,7 @@ returns c =
     let t : a .i / 16 < 513 = place-owner 513 (a .i) (x .pre .1) in
     let u : a .i / 16 ≤ 512 = omega arith in
     rw (c .before .before .before .before .before .conflicts .ensures, c .before .before .before .conflicts2 .ensures, c .before .conflicts3 .ensures, c .before .before .before .before .before .before .of-slot2 .ensures)
-    (clashes-found s (a .i) _ _ _ (c .before .before .before .before .is-other .ensures ∙ rw e (x .pre .3 .says (s SlotPayload (a .i)) 1 (a .i / 16) (h .block) (omega arith) u)) (c .before .before .is-other2 .ensures ∙ rw e (x .pre .3 .says (s SlotPayload (a .i)) 2 (a .i / 16) (h .block) (omega arith) u)) (c .is-other3 .ensures ∙ rw e (x .pre .3 .says (s SlotPayload (a .i)) 3 (a .i / 16) (h .block) (omega arith) u)))
+    (clashes-found s (a .i) _ _ _ (x .pre .3 .modes) (c .before .before .before .before .is-other .ensures ∙ rw e (x .pre .3 .says (s SlotPayload (a .i)) 1 (a .i / 16) (h .block) (omega arith) u)) (c .before .before .is-other2 .ensures ∙ rw e (x .pre .3 .says (s SlotPayload (a .i)) 2 (a .i / 16) (h .block) (omega arith) u)) (c .is-other3 .ensures ∙ rw e (x .pre .3 .says (s SlotPayload (a .i)) 3 (a .i / 16) (h .block) (omega arith) u)))
 
 pub does-clash-spec : {M : Type 1} → statement M
 does-clash-spec =
