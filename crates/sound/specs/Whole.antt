@@ -13,9 +13,11 @@ use Rattle.session.specs.declared.Field.the-variants.{Objects, Links, Kind, Slo
 use Rattle.session.specs.Names.{held, task}
 use Rattle.rules.specs.Formula.{Formula, holds, test, Formula._and_, Formula._or_}
 use Rattle.rules.specs.Reading.{at}
+use Rattle.rules.specs.Modes.{isMode}
 use Rattle.rules.specs.Sound.{isPayload, sound, soundUsed, counts, objects, roots, creators, outputs, slots, slot, unclaimed, claimed, links, oneLink, states, blocks, compatible, latches, dropped, unused}
 use Rattle.rules.specs.FormulaLaws.{test-same}
 use Rattle.laws.specs.SlotPlaces.{place-split, place-low, place-owner}
+use Rattle.laws.specs.SlotModes.{held-mode}
 
 -- the answer on lent memory: memory that is too short is not sound
 unfoldable pub soundMemory : List ℕ → Bool
@@ -83,8 +85,7 @@ module _ (s : Session) where
   -- what a slot that is held is
   pub record IsHeld (i : ℕ) : Type 0 where
     pub block : s SlotPayload i < 513
-    pub mode-low : 1 ≤ s SlotMode i
-    pub mode-high : s SlotMode i ≤ 4
+    pub mode : holds (isMode (s SlotMode i))
     pub task-low : 1 ≤ i / 16
 
   pub slots-held : holds (objects s) → s Objects 0 ≤ 512 → holds (slots s) → (i : ℕ) → i < 16 * (s Objects 0 + 1) → s SlotMark i ≡ held → IsHeld i
@@ -99,6 +100,9 @@ module _ (s : Session) where
       mark : s SlotMark (at t j) ≡ held
       mark = subst (λ (k : ℕ). s SlotMark k ≡ held) (place-split i) m
 
+      mode : holds (isMode (s SlotMode (at t j)))
+      mode = subst (λ (k : ℕ). holds (isMode (s SlotMode k))) (place-split i) (held-mode s sl i l m)
+
       owner : s Kind t ≡ task → 1 ≤ at t j / 16
       owner k = subst (λ (p : ℕ). 1 ≤ p / 16) (place-split i) (go0 t refl)
         where
@@ -112,7 +116,7 @@ module _ (s : Session) where
 
       in-task : s Kind t ≡ task → holds (unclaimed s t j or claimed s t j) → IsHeld (at t j)
       in-task k (inl x) = let z : s SlotMark (at t j) ≡ 0 = x .1 .0 in absurd (omega (arith, mark))
-      in-task k (inr x) = record { block = low (x .1 .1 .1 .0); mode-low = x .0; mode-high = x .1 .0; task-low = owner k }
+      in-task k (inr x) = record { block = low (x .1 .1 .1 .0); mode = mode; task-low = owner k }
 
       go : holds (slot s t j) → IsHeld (at t j)
       go (inl x) = in-task (x .0) (x .1 .1)

@@ -45,7 +45,7 @@ returns c =
     let h = x .pre .3 in
     let t : a .i / 16 < 513 = place-owner 513 (a .i) (x .pre .1) in
     rw (c .join .ensures, c .before .before .before .of-slot .ensures, c .before .before .of-slot2 .ensures)
-    (holders-more s (a .row .now) (a .i) (x .pre .4) (x .pre .2) (h .block) (h .mode-low) (h .mode-high) (h .task-low) (omega arith))
+    (holders-more s (a .row .now) (a .i) (x .pre .4) (x .pre .2) (h .block) (h .mode .0) (h .mode .1) (h .task-low) (omega arith))
 
 pub note-held-spec : {M : Type 1} → statement M
 note-held-spec =
