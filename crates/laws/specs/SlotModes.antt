@@ -1,8 +1,8 @@
--- Which modes a session compares. Every slot is empty or has one of the modes 1 to 4: so has each that holds a block and each
--- that asks for one, and what the mode rule gives for other numbers is never asked.
+-- Which modes a session compares. Every slot is empty or has one of the modes 1 to 4; so each that holds a block or asks for one
+-- has, and what the mode rule gives for other numbers is never asked.
 use Prim.Native.Nat.{ℕ, _+_, _*_, _/_, _%_, _<_}
 use mathlib.Core.Path.{_≡_, sym, subst}
-use mathlib.Core.Logic.{_⊎_, inl, inr}
+use mathlib.Core.Logic.{inl, inr}
 use native.Mathlib.Omega.{arith}
 use Rattle.session.specs.Table.{Session}
 use Rattle.session.specs.declared.Field.the-variants.{Objects, SlotMode, SlotMark, SlotPayload}
@@ -28,18 +28,17 @@ module _ (s : Session) (sl : holds (slots s)) (i : ℕ) (l : i < 16 * (s Objects
       go (inl (k, (b, inr x))) = inr (x .0, x .1 .0)
       go (inr x) = inl (x .1)
 
-  -- soundness compares the modes of slots that hold, and RW
-  pub held-mode : s SlotMark i ≡ held → holds (isMode (s SlotMode i))
-  held-mode h = go slot-mode
+  used-mode : (holds (noSlot s i) → ⊥) → holds (isMode (s SlotMode i))
+  used-mode n = go slot-mode
     where
       go : holds (noSlot s i or isMode (s SlotMode i)) → holds (isMode (s SlotMode i))
-      go (inl x) = let e = x .1 .0 in absurd (omega arith)
+      go (inl x) = absurd (n x)
       go (inr x) = x
+
+  -- soundness compares the modes of slots that hold, and RW
+  pub held-mode : s SlotMark i ≡ held → holds (isMode (s SlotMode i))
+  held-mode h = used-mode (λ x. let e = x .1 .0 in omega arith)
 
   -- check 18 compares the mode of a slot that asks for a block with these
   pub asked-mode : (s SlotPayload i ≡ 0 → ⊥) → holds (isMode (s SlotMode i))
-  asked-mode n = go slot-mode
-    where
-      go : holds (noSlot s i or isMode (s SlotMode i)) → holds (isMode (s SlotMode i))
-      go (inl x) = absurd (n (x .1 .1))
-      go (inr x) = x
+  asked-mode n = used-mode (λ x. n (x .1 .1))

@@ -59,8 +59,8 @@ chosen x f e = rw e (go (test f))
     go true = refl
     go false = refl
 
--- The test by these connectives throughout, as code that is written like the formula computes it. An implication has its end
--- first, so that `not f` is `not`.
+-- The test by these connectives throughout, as code that is written like the formula computes it. Of an implication the
+-- conclusion comes first, so that `f then never` is `not`.
 abbrev pub said : Formula → Bool
 said (a ≐ b) = eqb a b
 said (a ≼ b) = leb a b

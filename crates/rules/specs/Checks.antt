@@ -7,7 +7,7 @@ use Rattle.session.specs.declared.Field.the-variants.{Objects, Links, TemplateC
 use Rattle.session.specs.Names.{mostObjects, mostLinks, template, task, event, block, unknownCount, resolved, granted, running, latch, ready, held, blockDestroyed, modeRW}
 use Rattle.rules.specs.Formula.{Formula, not, choose, Formula._≐_, Formula._≼_, Formula._and_, Formula._or_, Formula._then_, Formula.each, Formula.some}
 use Rattle.rules.specs.Reading.{at, made, isKind, isUserEvent, isRunning, isGone, hasSlot, holdsBlock, overflows, isFiredSticky}
-use Rattle.rules.specs.Modes.{stoppedBy}
+use Rattle.rules.specs.Modes.{isMode, stoppedBy}
 
 -- a check: its number, and what the operation must meet
 pub record Check : Type 0 where
@@ -67,7 +67,7 @@ module _ (s : Session) where
   -- event of type 1 to 4." "Checks 14 and 19 concern only calls that satisfy now, not one that makes a link."
   abbrev pub dependenceChecks : ℕ → ℕ → ℕ → ℕ → ℕ → List Check
   dependenceChecks caller source d j mode =
-      check 7 (1 ≼ mode and mode ≼ 4) ∷ check 8 (isRunning s caller) ∷ check 9 (orNull (made s) source and made s d)
+      check 7 (isMode mode) ∷ check 8 (isRunning s caller) ∷ check 9 (orNull (made s) source and made s d)
       ∷ check 10 (orNull (λ h. isKind s block h or isKind s event h) source and (isKind s task d or isUserEvent s d))
       ∷ check 11 (orNull remains source and remains d)
       ∷ check 12 (hasSlot s d j)

@@ -7,10 +7,10 @@ use Rattle.rules.specs.Formula.{Formula, not, Formula._≐_, Formula._�
 abbrev pub isMode : ℕ → Formula
 isMode a = modeRO ≼ a and a ≼ modeCONST
 
--- "Two holds by different tasks conflict if neither is RO, and they differ or both are EW": such two never stand together.
+-- "Two holds by different tasks conflict if neither is RO, and they differ or both are EW": two such holds are not sound.
 abbrev pub conflict : ℕ → ℕ → Formula
 conflict a b = not (a ≐ modeRO) and not (b ≐ modeRO) and (not (a ≐ b) or a ≐ modeEW and b ≐ modeEW)
 
--- "A hold of another task conflicts": a hold in the second mode stops a grant that asks for the first. For now the same rule.
+-- "A hold of another task conflicts": a hold in the second mode stops a grant that asks for the first. The same rule, for now.
 abbrev pub stoppedBy : ℕ → ℕ → Formula
 stoppedBy asked held = conflict asked held

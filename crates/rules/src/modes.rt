@@ -13,7 +13,7 @@ pub fn conflicts(a: u64, b: u64) -> bool
     (a != names::RO) & ((b != names::RO) & (differ | both))
 }
 
-// Whether another task's hold in the one mode stops a grant that asks for the other.
+// Whether a hold of another task in mode `held` stops a grant that asks for mode `asked`: for now, where the two conflict.
 pub fn is_stopped(asked: u64, held: u64) -> bool
     ensures { λ r. ⌜ r ≡ test (stoppedBy asked held) ⌝ }
 {
