@@ -4,8 +4,7 @@ use mathlib.Core.Path.{_≡_, refl}
 use mathlib.Core.Bool.{Bool, true, false, _&&_, _||_, not}
 use lib.Dec.{eqb, leb, ltb}
 use Rattle.session.specs.Table.{pick}
-use Rattle.rules.specs.Formula.{Formula, holds, test, choose, Formula._≐_, Formula._≼_, Formula._and_, Formula._or_, Formula._then_, Formula.never, Formula.each, Formula.some}
-use Rattle.rules.specs.FormulaLaws.{fails}
+use Rattle.rules.specs.Formula.{Formula, holds, test, choose, Formula._≐_, Formula._≼_, Formula._and_, Formula._or_, Formula._then_, Formula.never}
 
 pub test-eq : (a b : ℕ) → test (a ≐ b) ≡ eqb a b
 unfolding test
@@ -58,31 +57,3 @@ chosen x f e = rw e (go (test f))
     go : (b : Bool) → eqb (pick b 1 0) 1 ≡ b
     go true = refl
     go false = refl
-
--- The test by these connectives throughout, as code that is written like the formula computes it. Of an implication the
--- conclusion comes first, so that `f then never` is `not`.
-abbrev pub said : Formula → Bool
-said (a ≐ b) = eqb a b
-said (a ≼ b) = leb a b
-said (f and g) = said f && said g
-said (f or g) = said f || said g
-said (f then g) = said g || not (said f)
-said never = false
-said (each n f) = test (each n f)
-said (some n f) = test (some n f)
-
-pub test-said : (f : Formula) → test f ≡ said f
-test-said (a ≐ b) = test-eq a b
-test-said (a ≼ b) = test-le a b
-test-said (f and g) = rw (test-both f g, test-said f, test-said g)
-test-said (f or g) = rw (test-either f g, test-said f, test-said g)
-test-said (f then g) = rw (test-implies f g, test-said f, test-said g) (either (not (said f)) (said g))
-  where
-    either : (a b : Bool) → (a || b) ≡ (b || a)
-    either true true = refl
-    either true false = refl
-    either false true = refl
-    either false false = refl
-test-said never = fails never (λ x. x)
-test-said (each n f) = refl
-test-said (some n f) = refl

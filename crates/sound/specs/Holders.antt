@@ -12,7 +12,7 @@ use borrow.Author.Tests.{eq-eqb, ne-eqb}
 use borrow.Author.Count.{below-none, below-more}
 use Rattle.session.specs.Table.{Session, pick}
 use Rattle.session.specs.declared.Field.the-variants.{SlotMode, SlotMark, SlotPayload}
-use Rattle.session.specs.Names.{held}
+use Rattle.session.specs.Names.{held, modeRO}
 use Rattle.rules.specs.Formula.{Formula, holds, test, Formula._≐_, Formula._and_, Formula._or_, Formula.each, Formula.some}
 use Rattle.rules.specs.Formula as formula
 use Rattle.rules.specs.FormulaLaws.{passes, fails, test-same}
@@ -68,18 +68,19 @@ module _ (s : Session) where
   abbrev pub other : ℕ → ℕ → ℕ → ℕ → Formula
   other i b c t = some i (otherAt b c t)
 
-  abbrev Moded : ℕ → Type 0
-  Moded k = s SlotMark k ≡ held → holds (isMode (s SlotMode k))
+  -- if slot k holds, it holds in a mode
+  abbrev HasMode : ℕ → Type 0
+  HasMode k = s SlotMark k ≡ held → holds (isMode (s SlotMode k))
 
   -- the row has the holders among the first i slots, whose modes have a place in it
   pub record Holders (a : List ℕ) (i : ℕ) : Type 0 where
     pub size : length a ≡ 2052
-    pub modes : (k : ℕ) → k < i → Moded k
+    pub modes : (k : ℕ) → k < i → HasMode k
     pub says : (b c t : ℕ) → b < 513 → c < 4 → t ≤ 512 → isOther (getD a (cell b c) 0) t ≡ test (other i b (c + 1) t)
 
   pub holders-none : (a : List ℕ) → length a ≡ 2052 → ((p : ℕ) → p < 2052 → getD a p 0 ≡ 0) → Holders a 0
   holders-none a l z =
-      record { size = l; modes = below-none (λ (k : ℕ). Moded k); says = λ b c t p q r. rw (z (cell b c) (omega arith)) (sym (fails (other 0 b (c + 1) t) (λ x. let y = x .1 in omega arith))) }
+      record { size = l; modes = below-none (λ (k : ℕ). HasMode k); says = λ b c t p q r. rw (z (cell b c) (omega arith)) (sym (fails (other 0 b (c + 1) t) (λ x. let y = x .1 in omega arith))) }
 
   -- a slot that holds nothing of that kind adds nothing
   other-same : (i b c t : ℕ) → (holds (otherAt b c t i) → ⊥) → test (other (i + 1) b c t) ≡ test (other i b c t)
@@ -89,7 +90,7 @@ module _ (s : Session) where
   holders-skip a i h n =
       record {
         size = h .size;
-        modes = below-more (λ (k : ℕ). Moded k) i (h .modes) (λ e. absurd (n e));
+        modes = below-more (λ (k : ℕ). HasMode k) i (h .modes) (λ e. absurd (n e));
         says = λ b c t p q r. h .says b c t p q r ∙ sym (other-same i b (c + 1) t (λ x. n (x .0)));
       }
 
@@ -102,7 +103,7 @@ module _ (s : Session) where
   holders-more a i h m pl lo hi tl th =
       record {
         size = length-set a _ _ ∙ h .size;
-        modes = below-more (λ (k : ℕ). Moded k) i (h .modes) (λ e. (lo, hi));
+        modes = below-more (λ (k : ℕ). HasMode k) i (h .modes) (λ e. (lo, hi));
         says = λ b c t p q r. go b c t p q r (places (cell (s SlotPayload i) (s SlotMode i - 1)) (cell b c));
       }
     where
@@ -139,7 +140,7 @@ module _ (s : Session) where
       conflict (s SlotMode i) 2 and other i (s SlotPayload i) 2 (i / 16) or conflict (s SlotMode i) 3 and other i (s SlotPayload i) 3 (i / 16)
       or conflict (s SlotMode i) 4 and other i (s SlotPayload i) 4 (i / 16)
 
-  pub clashes-same : (i : ℕ) → ((k : ℕ) → k < i → Moded k) → test (clashesBy i) ≡ test (clashes i)
+  pub clashes-same : (i : ℕ) → ((k : ℕ) → k < i → HasMode k) → test (clashesBy i) ≡ test (clashes i)
   clashes-same i m = test-same (clashesBy i) (clashes i) to from
     where
       one-way : (c : ℕ) → holds (conflict (s SlotMode i) c and other i (s SlotPayload i) c (i / 16)) → holds (clashes i)
@@ -165,7 +166,7 @@ module _ (s : Session) where
           mode : holds (isMode (s SlotMode k))
           mode = m k (y .1) (y .2 .0)
 
-          writes : s SlotMode k ≡ 1 → ⊥
+          writes : s SlotMode k ≡ modeRO → ⊥
           writes = conflict-not-RO (s SlotMode i) (s SlotMode k) (y .2 .1 .1 .1)
 
           go : Places (s SlotMode k) 2 → Places (s SlotMode k) 3 → holds (clashesBy i)
@@ -174,7 +175,7 @@ module _ (s : Session) where
           go (two n) (two o) = inr (inr (back k 4 (y .1) (y .2) (let l = mode .0 in let h = mode .1 in let w = writes in omega arith)))
 
   -- as code finds it from the row
-  pub clashes-found : (i : ℕ) (x y z : Bool) → ((k : ℕ) → k < i → Moded k) → x ≡ test (other i (s SlotPayload i) 2 (i / 16)) → y ≡ test (other i (s SlotPayload i) 3 (i / 16)) → z ≡ test (other i (s SlotPayload i) 4 (i / 16))
+  pub clashes-found : (i : ℕ) (x y z : Bool) → ((k : ℕ) → k < i → HasMode k) → x ≡ test (other i (s SlotPayload i) 2 (i / 16)) → y ≡ test (other i (s SlotPayload i) 3 (i / 16)) → z ≡ test (other i (s SlotPayload i) 4 (i / 16))
       → ((test (conflict (s SlotMode i) 2) && x) || ((test (conflict (s SlotMode i) 3) && y) || (test (conflict (s SlotMode i) 4) && z))) ≡ test (clashes i)
   clashes-found i x y z m p q r =
       rw (p, q, r)
