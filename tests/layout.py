@@ -1,7 +1,7 @@
 #!/usr/bin/env python3
 """Holds docs/LAYOUT.md to the code: every field's first word and size, the number of words, and every named number.
 
-Reads crates/session/src/lib.rt (base_of), crates/session/specs/Table.antt (size, words) and crates/session/src/names.rt.
+Reads crates/session/src/lib.rt (base_of, WORDS), crates/session/specs/Table.antt (class) and crates/session/src/names.rt.
 """
 import os
 import re
@@ -18,12 +18,18 @@ def text(*path):
 def code_fields():
     """Field -> (first word, places), as the code and the specs have them."""
     bases = dict(re.findall(r'Field::(\w+) => (\d+),', text('crates', 'session', 'src', 'lib.rt')))
-    table = text('crates', 'session', 'specs', 'Table.antt')
-    sizes = dict(re.findall(r'^size (\w+) = (\d+)$', table, re.M))
-    spec_bases = dict(re.findall(r'^base (\w+) = (\d+)$', table, re.M))
-    assert bases and bases == spec_bases, 'the code and Table.antt name other first words'
-    assert bases.keys() == sizes.keys(), 'Table.antt does not size every field'
-    return {name: (bases[name], sizes[name]) for name in bases}
+    classes = dict(re.findall(r'^class (\w+) = (.+)$', text('crates', 'session', 'specs', 'Table.antt'), re.M))
+    assert bases and list(bases) == list(classes), 'the code and Table.antt name other fields'
+    numbers = code_numbers()
+    handles, links = int(numbers['MOST_OBJECTS']) + 1, int(numbers['MOST_LINKS']) + 1
+    places = {'always 1': 1, 'perHandle': handles, 'perSlot': 16 * handles, 'perLink': links}
+    sizes = {name: places[a_class] for name, a_class in classes.items()}
+    words = 0
+    for name in bases:
+        assert bases[name] == str(words), 'base_of does not put %s behind the field before it' % name
+        words += sizes[name]
+    assert numbers['WORDS'] == str(words), 'WORDS is not what the fields take'
+    return {name: (bases[name], str(sizes[name])) for name in bases}
 
 
 def page_fields(page):
@@ -33,7 +39,8 @@ def page_fields(page):
 
 
 def code_numbers():
-    return dict(re.findall(r'^pub const (\w+): \w+ = (\d+);', text('crates', 'session', 'src', 'names.rt'), re.M))
+    code = text('crates', 'session', 'src', 'names.rt') + text('crates', 'session', 'src', 'lib.rt')
+    return dict(re.findall(r'^pub const (\w+): \w+ = (\d+);', code, re.M))
 
 
 def page_numbers(page):

@@ -126,7 +126,7 @@ CLAIMS = {
     'stuck': ('unstuck os {0}', [], 'stuck-able os {0} steadily fact'),
 }
 
-NEEDED = re.compile(r'^(?:unfoldable |pub )*use Rattle\.rules\.specs\.(\w+)\.', re.M)
+NEEDED = re.compile(r'^(?:unfoldable |pub )*use Rattle\.rules\.specs\.(\w+)(?:\.| as )', re.M)
 UNFOLDABLE = re.compile(r'^ *unfoldable pub (?:use \S+\.\{(\w+)\}|(\S+) :)', re.M)
 FUNCTION = re.compile(r'^(?:pub )?fn .*?^}\n', re.M | re.S)
 

@@ -7,12 +7,12 @@ use native.Mathlib.Omega.{arith}
 use native.Mathlib.Decide.{decLt}
 use lib.ListN.{length, getD, set, replicate, getD-replicate}
 use lib.Seq.{getD-set-same, getD-set-other}
+use Rattle.session.specs.Names.{mostObjects, objectPlaces}
 use Rattle.session.specs.Table.{Session}
 use Rattle.session.specs.declared.Field.the-variants.{Objects, TaskCreator}
-use Rattle.rules.specs.Formula.{Formula, holds, choose, Formula._and_, Formula._or_, Formula.some, Formula.never}
-use Rattle.rules.specs.FormulaLaws.{Case, decide, choose-yes, choose-no, Case.it-does, Case.it-does-not}
+use Rattle.rules.specs.Formula.{Formula, holds, choose, Formula._and_, Formula.some, Formula.never}
+use Rattle.rules.specs.FormulaLaws.{Case, decide, choose-yes, choose-no, choose-same, Case.it-does, Case.it-does-not}
 use Rattle.rules.specs.Reading.{under, isLive, busy}
-use Rattle.rules.specs.Sound.{creator}
 use Rattle.laws.specs.Places.{Places, places, Places.one, Places.two}
 use Rattle.laws.specs.Under.{under-enough, or-map, Falls}
 
@@ -25,7 +25,7 @@ creator-low s falls h l = go (decLt 0 (s TaskCreator h))
 
 -- the marks have 1 where the formula holds and 0 elsewhere
 unfoldable pub Shows : List ℕ → (ℕ → Formula) → Type 0
-Shows m f = (a : ℕ) → a < 513 → getD m a 0 ≡ choose (f a) 1 0
+Shows m f = (a : ℕ) → a < objectPlaces → getD m a 0 ≡ choose (f a) 1 0
 
 -- some descendant of a among the first n handles is live
 unfoldable pub busyBelow : Session → ℕ → ℕ → Formula
@@ -33,20 +33,12 @@ busyBelow s n a = some n (λ h. isLive s h and under (s TaskCreator) h h a)
 
 -- whatever is marked, and is not h, has a marked creator or none
 unfoldable pub ClosedBut : Session → List ℕ → ℕ → Type 0
-ClosedBut s m h = (a : ℕ) → a < 513 → (a ≡ h → ⊥) → getD m a 0 ≡ 1 → 1 ≤ s TaskCreator a → getD m (s TaskCreator a) 0 ≡ 1
+ClosedBut s m h = (a : ℕ) → a < objectPlaces → (a ≡ h → ⊥) → getD m a 0 ≡ 1 → 1 ≤ s TaskCreator a → getD m (s TaskCreator a) 0 ≡ 1
 
 -- after has a mark at each task above h, and is otherwise as before was
 pub record Above (s : Session) (before after : List ℕ) (h : ℕ) : Type 0 where
   pub same-length : length after ≡ length before
-  pub marks : (a : ℕ) → a < 513 → getD after a 0 ≡ choose (under (s TaskCreator) h h a) 1 (getD before a 0)
-
--- a choice by a formula is a choice by one that says the same
-pub choose-same : {A : Type 0} (f g : Formula) (x y : A) → (holds f → holds g) → (holds g → holds f) → choose f x y ≡ choose g x y
-choose-same f g x y to from = go (decide f)
-  where
-    go : Case f → choose f x y ≡ choose g x y
-    go (it-does h) = choose-yes f x y h ∙ sym (choose-yes g x y (to h))
-    go (it-does-not n) = choose-no f x y n ∙ sym (choose-no g x y (λ h. n (from h)))
+  pub marks : (a : ℕ) → a < objectPlaces → getD after a 0 ≡ choose (under (s TaskCreator) h h a) 1 (getD before a 0)
 
 -- a mark is 1 exactly where the formula holds
 marked-holds : (f : Formula) → _≡_ {A = ℕ} (choose f 1 0) 1 → holds f
@@ -91,12 +83,14 @@ module _ (s : Session) (falls : Falls s) where
   under-next zero h a m x = absurd x
   under-next (suc n) h a m x = (x .0, go (under-next n (c h) a m) (x .1))
     where
-      go : (holds (under c n (c h) a) → holds (under c (suc n) (c h) (c a))) → (c h ≡ a) ⊎ holds (under c n (c h) a) → (c h ≡ c a) ⊎ holds (under c (suc n) (c h) (c a))
+      go : (holds (under c n (c h) a) → holds (under c (suc n) (c h) (c a))) → (c h ≡ a) ⊎ holds (under c n (c h) a)
+          → (c h ≡ c a) ⊎ holds (under c (suc n) (c h) (c a))
       go r (inl e) = inr (subst (λ (k : ℕ). 1 ≤ c k) (sym e) m, inl (ap c e))
       go r (inr y) = inr (r y)
 
   -- all above a marked task are marked
-  marked-above : (m : List ℕ) (h : ℕ) → s Objects 0 ≤ 512 → h ≤ s Objects 0 → ClosedBut s m h → (n k a : ℕ) → k < h → getD m k 0 ≡ 1 → holds (under c n k a) → getD m a 0 ≡ 1
+  marked-above : (m : List ℕ) (h : ℕ) → s Objects 0 ≤ mostObjects → h ≤ s Objects 0 → ClosedBut s m h → (n k a : ℕ) → k < h
+      → getD m k 0 ≡ 1 → holds (under c n k a) → getD m a 0 ≡ 1
   unfolding under ClosedBut
   marked-above m h b l closed zero k a kh e x = absurd x
   marked-above m h b l closed (suc n) k a kh e x = go (marked-above m h b l closed n (c k) a) (x .1)
@@ -107,7 +101,8 @@ module _ (s : Session) (falls : Falls s) where
       next : getD m (c k) 0 ≡ 1
       next = closed k (omega arith) (λ q. omega arith) e (x .0)
 
-      go : (c k < h → getD m (c k) 0 ≡ 1 → holds (under c n (c k) a) → getD m a 0 ≡ 1) → (c k ≡ a) ⊎ holds (under c n (c k) a) → getD m a 0 ≡ 1
+      go : (c k < h → getD m (c k) 0 ≡ 1 → holds (under c n (c k) a) → getD m a 0 ≡ 1) → (c k ≡ a) ⊎ holds (under c n (c k) a)
+          → getD m a 0 ≡ 1
       go r (inl q) = subst (λ (i : ℕ). getD m i 0 ≡ 1) q next
       go r (inr y) = r (omega (arith, f)) next y
 
@@ -118,10 +113,12 @@ module _ (s : Session) (falls : Falls s) where
   nobody-above (suc k) a e x = let z = x .0 in omega arith
 
   pub above-none : (m : List ℕ) (h : ℕ) → c h ≡ 0 → Above s m m h
-  above-none m h e = record { same-length = refl; marks = λ a b. sym (choose-no (under c h h a) 1 (getD m a 0) (nobody-above h a e)) }
+  above-none m h e =
+      record { same-length = refl; marks = λ a b. sym (choose-no (under c h h a) 1 (getD m a 0) (nobody-above h a e)) }
 
   -- and where the creator is marked already
-  pub above-met : (m : List ℕ) (h : ℕ) → s Objects 0 ≤ 512 → h ≤ s Objects 0 → ClosedBut s m h → 1 ≤ c h → getD m (c h) 0 ≡ 1 → Above s m m h
+  pub above-met : (m : List ℕ) (h : ℕ) → s Objects 0 ≤ mostObjects → h ≤ s Objects 0 → ClosedBut s m h → 1 ≤ c h
+      → getD m (c h) 0 ≡ 1 → Above s m m h
   above-met m h b l closed p e = record { same-length = refl; marks = λ a q. go a (decide (under c h h a)) }
     where
       f : c h < h
@@ -136,7 +133,8 @@ module _ (s : Session) (falls : Falls s) where
       go a (it-does-not n) = sym (choose-no (under c h h a) 1 (getD m a 0) n)
 
   -- else the creator is marked, and the walk goes on from it
-  pub closed-climb : (m : List ℕ) (h : ℕ) → s Objects 0 ≤ 512 → h ≤ s Objects 0 → length m ≡ 513 → ClosedBut s m h → 1 ≤ c h → ClosedBut s (set m (c h) 1) (c h)
+  pub closed-climb : (m : List ℕ) (h : ℕ) → s Objects 0 ≤ mostObjects → h ≤ s Objects 0 → length m ≡ objectPlaces
+      → ClosedBut s m h → 1 ≤ c h → ClosedBut s (set m (c h) 1) (c h)
   unfolding ClosedBut
   closed-climb m h b l len closed p a q ne e up = go (places h a) (places (c h) (c a))
     where
@@ -154,10 +152,14 @@ module _ (s : Session) (falls : Falls s) where
           getD-set-other m (c h) (c a) 1 0 (λ z. v (sym z))
           ∙ closed a q (λ z. w (sym z)) (sym (getD-set-other m (c h) a 1 0 ne) ∙ e) up
 
-  pub above-climb : (m after : List ℕ) (h : ℕ) → s Objects 0 ≤ 512 → h ≤ s Objects 0 → length m ≡ 513 → 1 ≤ c h → length (set m (c h) 1) ≡ length m
+  pub above-climb : (m after : List ℕ) (h : ℕ) → s Objects 0 ≤ mostObjects → h ≤ s Objects 0 → length m ≡ objectPlaces → 1 ≤ c h
+      → length (set m (c h) 1) ≡ length m
       → Above s (set m (c h) 1) after (c h) → Above s m after h
   above-climb m after h b l len p same x =
-      record { same-length = x .same-length ∙ same; marks = λ a q. x .marks a q ∙ go a (decide (under c (c h) (c h) a)) (places (c h) a) }
+      record {
+        same-length = x .same-length ∙ same;
+        marks = λ a q. x .marks a q ∙ go a (decide (under c (c h) (c h) a)) (places (c h) a);
+      }
     where
       f : c h < h
       f = falls h l p
@@ -181,7 +183,8 @@ module _ (s : Session) (falls : Falls s) where
           ∙ sym (choose-no (under c h h a) 1 (getD m a 0) (λ x. neither a n w (under-down h a l x)))
 
   -- marks of what is busy are closed
-  pub shows-closed : (m : List ℕ) (h : ℕ) → s Objects 0 ≤ 512 → h ≤ s Objects 0 → Shows m (busyBelow s h) → ClosedBut s m h
+  pub shows-closed : (m : List ℕ) (h : ℕ) → s Objects 0 ≤ mostObjects → h ≤ s Objects 0 → Shows m (busyBelow s h)
+      → ClosedBut s m h
   unfolding Shows busyBelow ClosedBut
   shows-closed m h b l x a q ne e up = go (marked-holds (busyBelow s h a) (sym (x a q) ∙ e))
     where
@@ -189,30 +192,37 @@ module _ (s : Session) (falls : Falls s) where
       go y =
           let k : ℕ = y .0 in
           let kh : k < h = y .1 in
-          let u : holds (under c k k (c a)) = under-enough c (s Objects 0) falls (suc k) k k (c a) (omega arith) (omega arith) (under-next k k a up (y .2 .1)) in
+          let u : holds (under c k k (c a)) =
+          under-enough c (s Objects 0) falls (suc k) k k (c a) (omega arith) (omega arith) (under-next k k a up (y .2 .1)) in
           let low : c a < k = under-lower k k (c a) (omega arith) u in
           x (c a) (omega arith) ∙ choose-yes (busyBelow s h (c a)) 1 0 (k, kh, (y .2 .0, u))
 
   -- one more handle looked at
-  pub shows-more : (m after : List ℕ) (h : ℕ) → holds (isLive s h) → Shows m (busyBelow s h) → Above s m after h → Shows after (busyBelow s (h + 1))
+  pub shows-more : (m after : List ℕ) (h : ℕ) → holds (isLive s h) → Shows m (busyBelow s h) → Above s m after h
+      → Shows after (busyBelow s (h + 1))
   unfolding Shows busyBelow
   shows-more m after h live x r a q = r .marks a q ∙ go (decide (under c h h a))
     where
-      old : (holds (under c h h a) → ⊥) → (i : ℕ) → i < h + 1 → holds (isLive s i and under c i i a) → Places i h → holds (busyBelow s h a)
+      old : (holds (under c h h a) → ⊥) → (i : ℕ) → i < h + 1 → holds (isLive s i and under c i i a) → Places i h
+          → holds (busyBelow s h a)
       old n i b y (one e) = absurd (n (subst (λ (k : ℕ). holds (under c k k a)) e (y .1)))
       old n i b y (two e) = (i, omega arith, y)
 
       go : Case (under c h h a) → choose (under c h h a) 1 (getD m a 0) ≡ choose (busyBelow s (h + 1) a) 1 0
-      go (it-does y) = choose-yes (under c h h a) 1 (getD m a 0) y ∙ sym (choose-yes (busyBelow s (h + 1) a) 1 0 (h, omega arith, (live, y)))
+      go (it-does y) =
+          choose-yes (under c h h a) 1 (getD m a 0) y ∙ sym (choose-yes (busyBelow s (h + 1) a) 1 0 (h, omega arith, (live, y)))
       go (it-does-not n) =
           choose-no (under c h h a) 1 (getD m a 0) n ∙ x a q
-          ∙ choose-same (busyBelow s h a) (busyBelow s (h + 1) a) 1 0 (λ y. (y .0, (let b = y .1 in omega arith), y .2)) (λ y. old n (y .0) (y .1) (y .2) (places (y .0) h))
+          ∙ choose-same (busyBelow s h a) (busyBelow s (h + 1) a) 1 0 (λ y. (y .0, (let b = y .1 in omega arith), y .2))
+          (λ y. old n (y .0) (y .1) (y .2) (places (y .0) h))
 
 -- a handle that is no live task adds nothing
-pub shows-skip : (s : Session) (m : List ℕ) (h : ℕ) → (holds (isLive s h) → ⊥) → Shows m (busyBelow s h) → Shows m (busyBelow s (h + 1))
+pub shows-skip : (s : Session) (m : List ℕ) (h : ℕ) → (holds (isLive s h) → ⊥) → Shows m (busyBelow s h)
+    → Shows m (busyBelow s (h + 1))
 unfolding Shows busyBelow
 shows-skip s m h dead x a q =
-    x a q ∙ choose-same (busyBelow s h a) (busyBelow s (h + 1) a) 1 0 (λ y. (y .0, (let b = y .1 in omega arith), y .2)) (λ y. old (y .0) (y .1) (y .2) (places (y .0) h))
+    x a q ∙ choose-same (busyBelow s h a) (busyBelow s (h + 1) a) 1 0 (λ y. (y .0, (let b = y .1 in omega arith), y .2))
+    (λ y. old (y .0) (y .1) (y .2) (places (y .0) h))
   where
     old : (i : ℕ) → i < h + 1 → holds (isLive s i and under (s TaskCreator) i i a) → Places i h → holds (busyBelow s h a)
     old i b y (one e) = absurd (dead (subst (λ (k : ℕ). holds (isLive s k)) e (y .0)))
@@ -227,6 +237,6 @@ pub shows-all : (s : Session) (m : List ℕ) (n : ℕ) → n ≡ s Objects 0 + 1
 unfolding Shows busyBelow
 shows-all s m n e x = rw e at x
 
-pub shows-zeros : Shows (replicate 513 0) (λ a. never)
+pub shows-zeros : Shows (replicate objectPlaces 0) (λ a. never)
 unfolding Shows
-shows-zeros a q = getD-replicate 513 a 0 0 q ∙ sym (choose-no never 1 0 (λ z. z))
+shows-zeros a q = getD-replicate objectPlaces a 0 0 q ∙ sym (choose-no never 1 0 (λ z. z))

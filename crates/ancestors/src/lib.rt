@@ -1,7 +1,9 @@
 use session::Field;
+use session::names;
 ghost use mathlib.Core.Path.{_≡_};
 ghost use Prim.Native.Nat.{_+_, _≤_};
 ghost use lib.ListN.{length};
+ghost use Rattle.session.specs.Names.{mostObjects, objectPlaces};
 ghost use Rattle.session.specs.Table.{read, words};
 ghost use Rattle.session.specs.declared.Field.the-variants.{Objects};
 ghost use Rattle.rules.specs.Formula.{Formula.never};
@@ -12,8 +14,9 @@ ghost use Rattle.ancestors.specs.Above.{ClosedBut, Above, Shows, busyBel
 // Marks the creator of h, its creator and so on, up to a task that is marked already: all above it are then marked too.
 // Internal: callers have shown that creators are lower, and that marks are closed but for h itself.
 fn mark_above(s: &[u64], marks: &mut [u64], h: u64)
-    requires { ⌜ (words ≤ length (now s)) × (read (now s) Objects 0 ≤ 512) × Falls (read (now s)) × (h ≤ read (now s) Objects 0)
-        × (length (now marks) ≡ 513) × ClosedBut (read (now s)) (now marks) h ⌝ }
+    requires { ⌜ (words ≤ length (now s)) × (read (now s) Objects 0 ≤ mostObjects) × Falls (read (now s))
+        × (h ≤ read (now s) Objects 0)
+        × (length (now marks) ≡ objectPlaces) × ClosedBut (read (now s)) (now marks) h ⌝ }
     ensures { λ r. ⌜ Above (read (now (s .entry))) (now (marks .entry)) (now (marks .exit)) h ⌝ }
 {
     let c = session::get(s, Field::TaskCreator, h as usize);
@@ -29,8 +32,9 @@ fn mark_above(s: &[u64], marks: &mut [u64], h: u64)
 
 // Marks the ancestors of h if it is live. Internal, as `mark_above` is.
 fn mark_live(s: &[u64], marks: &mut [u64], h: u64)
-    requires { ⌜ (words ≤ length (now s)) × (read (now s) Objects 0 ≤ 512) × Falls (read (now s)) × (h ≤ read (now s) Objects 0)
-        × (length (now marks) ≡ 513) × Shows (now marks) (busyBelow (read (now s)) h) ⌝ }
+    requires { ⌜ (words ≤ length (now s)) × (read (now s) Objects 0 ≤ mostObjects) × Falls (read (now s))
+        × (h ≤ read (now s) Objects 0)
+        × (length (now marks) ≡ objectPlaces) × Shows (now marks) (busyBelow (read (now s)) h) ⌝ }
     ensures { λ r. ⌜ Shows (now (marks .exit)) (busyBelow (read (now (s .entry))) (h + 1)) ⌝ }
 {
     if reading::is_live(s, h) {
@@ -40,8 +44,8 @@ fn mark_live(s: &[u64], marks: &mut [u64], h: u64)
 
 // Marks every task that has a live descendant. Internal: callers lend marks that are all 0.
 fn mark_all(s: &[u64], marks: &mut [u64])
-    requires { ⌜ (words ≤ length (now s)) × (read (now s) Objects 0 ≤ 512) × Falls (read (now s))
-        × (length (now marks) ≡ 513) × Shows (now marks) (λ a. never) ⌝ }
+    requires { ⌜ (words ≤ length (now s)) × (read (now s) Objects 0 ≤ mostObjects) × Falls (read (now s))
+        × (length (now marks) ≡ objectPlaces) × Shows (now marks) (λ a. never) ⌝ }
     ensures { λ r. ⌜ Shows (now (marks .exit)) (busy (read (now (s .entry)))) ⌝ }
 {
     let n = session::get(s, Field::Objects, 0);
@@ -53,11 +57,11 @@ fn mark_all(s: &[u64], marks: &mut [u64])
 }
 
 // For each handle 1 if some descendant of it is a live task, else 0. Internal: callers have shown that creators are lower.
-pub fn busy_marks(s: &[u64]) -> [u64; 513]
-    requires { ⌜ (words ≤ length (now s)) × (read (now s) Objects 0 ≤ 512) × Falls (read (now s)) ⌝ }
+pub fn busy_marks(s: &[u64]) -> [u64; names::OBJECT_PLACES]
+    requires { ⌜ (words ≤ length (now s)) × (read (now s) Objects 0 ≤ mostObjects) × Falls (read (now s)) ⌝ }
     ensures { λ r. ⌜ Shows r (busy (read (now (s .entry)))) ⌝ }
 {
-    let mut marks: [u64; 513] = [0; 513];
+    let mut marks: [u64; names::OBJECT_PLACES] = [0; names::OBJECT_PLACES];
     mark_all(s, &mut marks);
     marks
 }

@@ -4,16 +4,26 @@ use Prim.Native.Nat.{ℕ, zero, suc, _+_, _*_, _-_}
 use mathlib.Core.Bool.{Bool, true, false}
 use mathlib.Core.List.{List, [], _∷_}
 use Rattle.session.specs.Table.{Session, put, change}
-use Rattle.session.specs.declared.Field.the-variants.{Objects, Links, Kind, TaskState, EventState, EventPayload, BlockState, SlotMark, SlotPayload, LinkState}
-use Rattle.session.specs.Names.{task, event, block, resolved, running, ended, taskDestroyed, fired, destroyedFired, doomed, delivered}
+use Rattle.session.specs.declared.Field.the-variants.{Objects, Links, Kind, TaskState, EventState, EventPayload, BlockState}
+use Rattle.session.specs.declared.Field.the-variants.{SlotMark, SlotPayload, LinkState}
+use Rattle.session.specs.Names.{task, event, block, resolved, running, ended, taskDestroyed, fired, destroyedFired, doomed}
+use Rattle.session.specs.Names.{delivered}
 use Rattle.rules.specs.declared.Operation.{Operation}
-use Rattle.rules.specs.Formula.{Formula, test, not, _iff_, choose, count, Formula._≐_, Formula._≼_, Formula._and_, Formula._or_, Formula._then_, Formula.each, Formula.some}
+use Rattle.rules.specs.Formula.{Formula, test, not, _iff_, choose, count, Formula._≐_, Formula._≼_, Formula._and_, Formula._or_}
+use Rattle.rules.specs.Formula.{Formula._then_, Formula.each, Formula.some}
 use Rattle.rules.specs.Reading.{at, under, isKind, isUndelivered}
 use Rattle.rules.specs.Sound.{soundUsed}
 use Rattle.rules.specs.Checks.{refusal}
-use Rattle.rules.specs.Effects.{new, newTemplate, newEvent, newTask, makeTask, newBlock, fire, fireOne, satisfySlot, tally, satisfyEvent, satisfy, claim, newLink, depend, buryDoomed, letGo, release, destroyEvent, fireFinished, destroyTask, destroyBlock, destroy, drops, deliver, grant, start, end}
-use Rattle.rules.specs.Step.{rules, freshSession, answer, after, outcome, arg}
-use Rattle.rules.specs.Book.{Book, opening, entered, enter, enterObject, enterTask, enterLink, satisfies, strike, enterDestroy, enterDeliver, enterEnd, madeBy, live, liveTasks, undeliveredLinks, done, Column.Kind as BookKind, Column.Objects as BookObjects, Column.Links as BookLinks, Column.Times, Column.Brought, Column.Has, Column.Starts, Column.Ended, Column.Count, Column.Finish, Column.Output, Column.Destroyed, Column.Struck}
+use Rattle.rules.specs.EventTypes.{ofType}
+use Rattle.rules.specs.Effects.{new, newTemplate, newEvent, newTask, makeTask, newBlock, fire, fireOne, satisfySlot, tally}
+use Rattle.rules.specs.Effects.{satisfyEvent, satisfy, claim, newLink, depend, buryDoomed, letGo, release, destroyEvent}
+use Rattle.rules.specs.Effects.{fireFinished, destroyTask, destroyBlock, destroy, drops, deliver, grant, start, end}
+use Rattle.rules.specs.Step.{rules, freshSession, answer, after, outcome, arg, entered}
+use Rattle.rules.specs.Book.{Book, opening, enter, enterObject, enterTask, enterLink, satisfies, strike, enterDestroy}
+use Rattle.rules.specs.Book.{enterDeliver, enterStart, enterEnd, madeBy, live, liveTasks, undeliveredLinks, done}
+use Rattle.rules.specs.Book.{Column.Kind as BookKind, Column.Objects as BookObjects, Column.Links as BookLinks, Column.Times}
+use Rattle.rules.specs.Book.{Column.Brought, Column.Has, Column.Starts, Column.Ended, Column.Count, Column.Finish, Column.Output}
+use Rattle.rules.specs.Book.{Column.Destroyed, Column.Struck}
 
 -- a call and its answer: the refusal (0 if accepted), and the handle or link made
 pub record Line : Type 0 where
@@ -30,7 +40,7 @@ answers s l = answer s (l .operation) ≐ l .refused and outcome s (l .operation
 
 -- all that a call computes with
 unfoldable pub computed : ℕ
-unfolding put change test count under refusal new newTemplate newEvent newTask makeTask newBlock fire fireOne satisfySlot tally satisfyEvent satisfy claim newLink depend buryDoomed letGo release destroyEvent fireFinished destroyTask destroyBlock destroy drops deliver grant start end rules freshSession answer after outcome
+unfolding put change test ofType count under refusal new newTemplate newEvent newTask makeTask newBlock fire fireOne satisfySlot tally satisfyEvent satisfy claim newLink depend buryDoomed letGo release destroyEvent fireFinished destroyTask destroyBlock destroy drops deliver grant start end rules freshSession answer after outcome
 computed = 0
 
 -- the answers along a list
@@ -49,7 +59,11 @@ soundAlong s (l ∷ ls) =
       | false ↦ false
       | true ↦ elim (test (l .refused ≐ 0)) [
         | false ↦ soundAlong s ls
-        | true ↦ elim (test (soundUsed (after s (l .operation)))) [ false ↦ false | true ↦ soundAlong (after s (l .operation)) ls ]
+        | true ↦ elim (test (soundUsed (after s (l .operation)))) [
+          | false ↦ false
+          | true ↦ soundAlong
+              (after s (l .operation)) ls
+        ]
       ]
     ]
 
@@ -135,7 +149,7 @@ related s b =
 
 -- demand 3 along a list that ends where nothing moves
 unfoldable pub demandAlong : Session → Book → List Line → Bool
-unfolding computed total madeBy opening entered enter enterObject enterTask enterLink satisfies strike enterDestroy enterDeliver enterEnd
+unfolding computed total madeBy opening entered enter enterObject enterTask enterLink satisfies strike enterDestroy enterDeliver enterStart enterEnd
 demandAlong s b [] = test (related s b and still s and stuck b)
 demandAlong s b (l ∷ ls) =
     elim (test (answers s l)) [

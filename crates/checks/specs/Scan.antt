@@ -1,5 +1,5 @@
 -- How far the scan of a grant has come: over the pre-slots, and for one that claims a block over the holds.
-use Prim.Native.Nat.{ℕ, zero, suc, _+_, _*_, _-_, _/_, _%_, _≤_, _<_}
+use Prim.Native.Nat.{ℕ, zero, suc, _+_, _*_, _/_, _%_, _≤_, _<_}
 use mathlib.Core.Path.{_≡_, refl, sym, ap, subst, _∙_}
 use mathlib.Core.List.{List, [], _∷_, _++_}
 use mathlib.Core.Bool.{Bool}
@@ -19,10 +19,13 @@ use Rattle.rules.specs.FormulaLaws.{Case, decide, test-same, Case.it-does, Case
 use Rattle.rules.specs.Modes.{stoppedBy}
 use Rattle.rules.specs.ModeLaws.{stopped-not-RO}
 use Rattle.rules.specs.Checks.{slotFree}
-use Rattle.rules.specs.Sound.{sound, taskPart}
-use Rattle.checks.specs.SoundParts.{Hold, hold-at, few-objects, sound-objects}
-use Rattle.checks.specs.Holders.{Passed, Listed, isHold, placeOf, reach, place-few, place-first, place-number}
-use Rattle.checks.specs.Granting.{slotAt, taskAt, upTo, isClaim, clash, makerClash, holdClash}
+use Rattle.rules.specs.Sound.{sound}
+use Rattle.laws.specs.Rows.Name.{kinds, taskParts}
+use Rattle.laws.specs.ByName.{sound-by-name}
+use Rattle.laws.specs.Conjuncts.{no-task}
+use Rattle.checks.specs.SoundParts.{Hold, hold-at, few-objects}
+use Rattle.checks.specs.HolderList.{Passed, Listed, isHold, placeOf, reach, place-few, place-first, place-number}
+use Rattle.checks.specs.GrantChecks.{slotAt, taskAt, upTo, isClaim, clash, makerClash, holdClash}
 
 length-upTo : {A : Type 0} (n : ℕ) (f : ℕ → A) → length (upTo n f) ≡ n
 unfolding upTo
@@ -48,7 +51,8 @@ abbrev pub blank : Slot
 blank = record { mode = 0; mark = 0; payload = 0 }
 
 -- what a task's record says of its slots and of their number
-pub record-slot : (s : Session) (t : ℕ) (r : Task) → r ≡ taskAt s t → (j : ℕ) → j < 16 → getD (r .slots) j blank ≡ slotAt s (at t j)
+pub record-slot : (s : Session) (t : ℕ) (r : Task) → r ≡ taskAt s t → (j : ℕ) → j < 16
+    → getD (r .slots) j blank ≡ slotAt s (at t j)
 unfolding taskAt
 record-slot s t r e j h = ap (λ (x : Task). getD (x .slots) j blank) e ∙ getD-upTo 16 (λ j. slotAt s (at t j)) blank j h
 
@@ -94,7 +98,9 @@ abbrev pub Scanned : Session → ℕ → Slot → List ℕ → ℕ → Type 0
 Scanned s t p g q = Through (λ i. not (holdClash s t p (placeOf g i))) q
 
 -- one hold more, and on to the next
-pub scan-more : (s : Session) (t : ℕ) (p : Slot) (g : List ℕ) (q r : ℕ) → Scanned s t p g q → (holds (holdClash s t p (placeOf g q)) → ⊥) → (placeOf g 0 ≡ 0) → Passed (λ i. isHold s (placeOf g i)) (q + 1) r → Scanned s t p g r
+pub scan-more : (s : Session) (t : ℕ) (p : Slot) (g : List ℕ) (q r : ℕ) → Scanned s t p g q
+    → (holds (holdClash s t p (placeOf g q)) → ⊥) → (placeOf g 0 ≡ 0) → Passed (λ i. isHold s (placeOf g i)) (q + 1) r
+    → Scanned s t p g r
 scan-more s t p g q r c n z o = record { all = λ i l. go i l (decLt i (q + 1)) }
   where
     passed : Scanned s t p g (q + 1)
@@ -110,29 +116,36 @@ scan-more s t p g q r c n z o = record { all = λ i l. go i l (decLt i (q + 1)) 
     go i l (no b) = over i l (omega arith)
 
 -- the same with more of them
-pub scan-same : (s : Session) (t : ℕ) (p : Slot) (g k : List ℕ) (n q : ℕ) → ((i : ℕ) → i < n → getD k i 0 ≡ getD g i 0) → q ≤ 16 * n → Scanned s t p g q → Scanned s t p k q
+pub scan-same : (s : Session) (t : ℕ) (p : Slot) (g k : List ℕ) (n q : ℕ) → ((i : ℕ) → i < n → getD k i 0 ≡ getD g i 0)
+    → q ≤ 16 * n → Scanned s t p g q → Scanned s t p k q
 unfolding placeOf
-scan-same s t p g k n q e few c = record { all = λ i l. subst (λ (j : ℕ). holds (not (holdClash s t p j))) (same i (omega arith)) (c .all i l) }
+scan-same s t p g k n q e few c =
+    record { all = λ i l. subst (λ (j : ℕ). holds (not (holdClash s t p j))) (same i (omega arith)) (c .all i l) }
   where
     same : (i : ℕ) → i < 16 * n → placeOf g i ≡ placeOf k i
     same i l = ap (λ (a : ℕ). 16 * a + i % 16) (sym (e (i / 16) (omega arith)))
 
 -- handle 0 has no slots
 no-slots : (s : Session) → holds (sound s) → s TaskSlots 0 ≡ 0
-no-slots s h = go (sound-objects s h .1 0 (omega arith) .1 .1 .0)
-  where
-    go : holds (taskPart s 0) → s TaskSlots 0 ≡ 0
-    go (inl x) = let z = sound-objects s h .0 in let k = x .0 in absurd (omega arith)
-    go (inr x) = x .1 .1 .1 .0
+no-slots s h =
+    let r = sound-by-name s h in
+    no-task s 0 (λ k. let z = r kinds .0 in omega arith) (r taskParts 0 (omega arith)) .no-slots
 
 module _ (s : Session) (t j : ℕ) (h : holds (sound s)) (g : List ℕ) (n : ℕ) (y : Listed s g n) where
   -- a scan that found nothing
-  pub free-scanned : (q : ℕ) → s Objects 0 < reach g n → 16 * n ≤ q → Scanned s t (slotAt s (at t j)) g q → holds (isClaim (slotAt s (at t j))) → holds (slotFree s t (at t j))
+  pub free-scanned : (q : ℕ) → s Objects 0 < reach g n → 16 * n ≤ q → Scanned s t (slotAt s (at t j)) g q
+      → holds (isClaim (slotAt s (at t j))) → holds (slotFree s t (at t j))
   unfolding slotAt
   free-scanned q up few c claim =
-      inr ((λ x. slot (x .0) (x .1) (x .2)), λ x. c .all 0 (let m = y .some in omega arith) (inl (place-first s g n y, (claim .0, x))))
+      inr (
+        (λ x. slot (x .0) (x .1) (x .2)),
+        λ x. c .all 0 (let m = y .some in omega arith)
+            (inl (place-first s g n y, (claim .0, x))),
+      )
     where
-      slot : (k : ℕ) → k < 16 * (s Objects 0 + 1) → holds (not (k / 16 ≐ t) and s SlotMark k ≐ held and s SlotPayload k ≐ s SlotPayload (at t j) and stoppedBy (s SlotMode (at t j)) (s SlotMode k)) → ⊥
+      slot : (k : ℕ) → k < 16 * (s Objects 0 + 1)
+          → holds (not (k / 16 ≐ t) and s SlotMark k ≐ held and s SlotPayload k ≐ s SlotPayload (at t j) and stoppedBy
+          (s SlotMode (at t j)) (s SlotMode k)) → ⊥
       slot k low x = go (place-number s g n y k (let m = o .made in omega arith) (o .owner))
         where
           o : Hold s k
@@ -143,10 +156,12 @@ module _ (s : Session) (t j : ℕ) (h : holds (sound s)) (g : List ℕ) (n : ℕ
 
           go : (i : ℕ) × (i < 16 * n) × (placeOf g i ≡ k) → ⊥
           go (i, l, e) =
-              c .all i (omega arith) (subst (λ (m : ℕ). holds (holdClash s t (slotAt s (at t j)) m)) (sym e) (inr ((λ z. first z (o .used)), x .1)))
+              c .all i (omega arith)
+              (subst (λ (m : ℕ). holds (holdClash s t (slotAt s (at t j)) m)) (sym e) (inr ((λ z. first z (o .used)), x .1)))
 
   -- a hold in conflict
-  pub taken : s TaskState t ≡ resolved → (q : ℕ) → q < 16 * n → holds (isClaim (slotAt s (at t j))) → holds (holdClash s t (slotAt s (at t j)) (placeOf g q)) → holds (slotFree s t (at t j)) → ⊥
+  pub taken : s TaskState t ≡ resolved → (q : ℕ) → q < 16 * n → holds (isClaim (slotAt s (at t j)))
+      → holds (holdClash s t (slotAt s (at t j)) (placeOf g q)) → holds (slotFree s t (at t j)) → ⊥
   unfolding slotAt
   taken r q l claim x (inl z) = claim .0 z
   taken r q l claim (inl x) (inr z) = z .1 (x .1 .1)

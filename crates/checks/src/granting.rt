@@ -1,10 +1,10 @@
 // What a grant's checks look at: the task by value, and the holds of other tasks. Internal.
-use crate::fields::of_slot;
 use crate::holders::find_more;
 use crate::holders::next_place;
 use crate::holders::place_at;
 use crate::objects::remains_or_null;
 use reading::of_object;
+use reading::of_slot_at;
 use rules::Slot;
 use rules::Task;
 use rules::modes::is_stopped;
@@ -15,14 +15,14 @@ ghost use Prim.Native.Nat.{_+_, _*_, _≤_, _<_};
 ghost use lib.ListN.{length};
 ghost use Rattle.session.specs.Table.{read, words, at};
 ghost use Rattle.session.specs.declared.Field.the-variants.{Objects, TaskState, TaskSlots};
-ghost use Rattle.session.specs.Names.{resolved};
+ghost use Rattle.session.specs.Names.{resolved, mostObjects, slotPlaces};
 ghost use Rattle.rules.specs.Formula.{test, holds};
 ghost use Rattle.rules.specs.Sound.{sound};
-ghost use Rattle.checks.specs.Granting.{slotAt, taskAt, isClaim, hasClaim, clash, makerClash, holdClash, blocksRemain, slotsFree};
+ghost use Rattle.checks.specs.GrantChecks.{slotAt, taskAt, isClaim, hasClaim, clash, makerClash, holdClash, blocksRemain, slotsFree};
 
 // The slot at place i of the fields of slots.
 fn slot_at(s: &[u64], i: usize) -> Slot
-    requires { ⌜ (words ≤ length (now s)) × (i < 8208) ⌝ }
+    requires { ⌜ (words ≤ length (now s)) × (i < slotPlaces) ⌝ }
     ensures { λ r. ⌜ r ≡ slotAt (read (now (s .entry))) i ⌝ }
 {
     Slot {
@@ -33,7 +33,7 @@ fn slot_at(s: &[u64], i: usize) -> Slot
 }
 
 fn slot_of(s: &[u64], t: usize, j: usize) -> Slot
-    requires { ⌜ (words ≤ length (now s)) × (t ≤ 512) × (j < 16) ⌝ }
+    requires { ⌜ (words ≤ length (now s)) × (t ≤ mostObjects) × (j < 16) ⌝ }
     ensures { λ r. ⌜ r ≡ slotAt (read (now (s .entry))) (at t j) ⌝ }
 {
     slot_at(s, t * 16 + j)
@@ -41,7 +41,7 @@ fn slot_of(s: &[u64], t: usize, j: usize) -> Slot
 
 // A task with its sixteen slots.
 fn task_at(s: &[u64], t: usize) -> Task
-    requires { ⌜ (words ≤ length (now s)) × (t ≤ 512) ⌝ }
+    requires { ⌜ (words ≤ length (now s)) × (t ≤ mostObjects) ⌝ }
     ensures { λ r. ⌜ r ≡ taskAt (read (now (s .entry))) t ⌝ }
 {
     let mut slots = [Slot {
@@ -75,7 +75,7 @@ fn is_claim(slot: Slot) -> bool
 }
 
 fn has_claim(s: &[u64], t: u64) -> bool
-    requires { ⌜ (words ≤ length (now s)) × (t ≤ 512) × (read (now s) TaskSlots t ≤ 16) ⌝ }
+    requires { ⌜ (words ≤ length (now s)) × (t ≤ mostObjects) × (read (now s) TaskSlots t ≤ 16) ⌝ }
     ensures { λ r. ⌜ r ≡ test (hasClaim (read (now (s .entry))) t) ⌝ }
 {
     let count = of_object(s, Field::TaskSlots, t);
@@ -119,7 +119,7 @@ fn maker_clashes(s: &[u64], t: u64, slot: Slot) -> bool
 // Whether the hold at place k stops what the slot asks for. Place 0 is no task's, and stands for the hold from the
 // creation of the slot's block.
 fn hold_clashes(s: &[u64], t: u64, slot: Slot, k: usize) -> bool
-    requires { ⌜ (words ≤ length (now s)) × (k < 8208) ⌝ }
+    requires { ⌜ (words ≤ length (now s)) × (k < slotPlaces) ⌝ }
     ensures { λ r. ⌜ r ≡ test (holdClash (read (now (s .entry))) t slot k) ⌝ }
 {
     if k == 0 {
@@ -139,7 +139,7 @@ pub fn blocks_remain(s: &[u64], t: u64) -> bool
     let count = of_object(s, Field::TaskSlots, t);
     let mut j: u64 = 0;
     while j < count {
-        if !remains_or_null(s, of_slot(s, Field::SlotPayload, t, j)) {
+        if !remains_or_null(s, of_slot_at(s, Field::SlotPayload, t, j)) {
             return false;
         }
         j += 1;
@@ -161,7 +161,7 @@ pub fn is_free(s: &[u64], t: u64) -> bool
     }
     let task = task_at(s, t as usize);
     let count = task.count;
-    let mut holders: [u16; 513] = [0; 513];
+    let mut holders: [u16; names::OBJECT_PLACES] = [0; names::OBJECT_PLACES];
     let mut found: usize = 1;
     let mut free = true;
     let mut j: u64 = 0;

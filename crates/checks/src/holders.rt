@@ -6,15 +6,16 @@ use session::names;
 ghost use mathlib.Core.Path.{_≡_};
 ghost use Prim.Native.Nat.{_+_, _*_, _/_, _≤_, _<_};
 ghost use lib.ListN.{length, getD};
+ghost use Rattle.session.specs.Names.{mostObjects, objectPlaces, slotPlaces};
 ghost use Rattle.session.specs.Table.{read, words};
 ghost use Rattle.session.specs.declared.Field.the-variants.{Objects};
 ghost use Rattle.rules.specs.Formula.{test, holds, Formula.some};
 ghost use Rattle.rules.specs.Sound.{sound};
-ghost use Rattle.checks.specs.Holders.{Passed, Listed, More, isHolder, isHold, placeOf};
+ghost use Rattle.checks.specs.HolderList.{Passed, Listed, More, isHolder, isHold, placeOf};
 
 // Whether h may hold blocks by its slots.
 fn is_holder(s: &[u64], h: usize) -> bool
-    requires { ⌜ (words ≤ length (now s)) × (h < 513) ⌝ }
+    requires { ⌜ (words ≤ length (now s)) × (h < objectPlaces) ⌝ }
     ensures { λ r. ⌜ r ≡ test (isHolder (read (now (s .entry))) h) ⌝ }
 {
     let state = session::get(s, Field::TaskState, h);
@@ -42,7 +43,7 @@ fn has_holder(s: &[u64], h: usize) -> bool
 
 // The first holder from `from` on, or n if none is before it. Eight handles at a time are passed over first.
 fn next_holder(s: &[u64], n: usize, from: usize) -> usize
-    requires { ⌜ (words ≤ length (now s)) × (from ≤ n) × (n ≤ 512) ⌝ }
+    requires { ⌜ (words ≤ length (now s)) × (from ≤ n) × (n ≤ mostObjects) ⌝ }
     ensures { λ r. ⌜ (r ≤ n) × Passed (isHolder (read (now (s .entry)))) from r ⌝ }
 {
     let mut h = from;
@@ -63,8 +64,14 @@ fn next_holder(s: &[u64], n: usize, from: usize) -> usize
 
 // One holder more, once number q is past the places of those that there are; as many as before if they go up to the last
 // handle.
-pub fn find_more(s: &[u64], holders: &mut [u16; 513], found: usize, q: usize) -> usize
-    requires { ⌜ (words ≤ length (now s)) × (read (now s) Objects 0 ≤ 512) × Listed (read (now s)) (now holders) found × (q ≤ 16 * found) ⌝ }
+pub fn find_more(
+    s: &[u64],
+    holders: &mut [u16; names::OBJECT_PLACES],
+    found: usize,
+    q: usize,
+) -> usize
+    requires { ⌜ (words ≤ length (now s)) × (read (now s) Objects 0 ≤ mostObjects) × Listed (read (now s)) (now holders) found
+        × (q ≤ 16 * found) ⌝ }
     ensures { λ r. ⌜ More (read (now (s .entry))) (now (holders .entry)) (now (holders .exit)) found r q ⌝ }
 {
     if q < 16 * found {
@@ -81,8 +88,8 @@ pub fn find_more(s: &[u64], holders: &mut [u16; 513], found: usize, q: usize) ->
 }
 
 // Place number q of the holders' slots.
-pub fn place_at(holders: &[u16; 513], q: usize) -> usize
-    requires { ⌜ (q < 8208) × (getD (now holders) (q / 16) 0 ≤ 512) ⌝ }
+pub fn place_at(holders: &[u16; names::OBJECT_PLACES], q: usize) -> usize
+    requires { ⌜ (q < slotPlaces) × (getD (now holders) (q / 16) 0 ≤ mostObjects) ⌝ }
     ensures { λ r. ⌜ r ≡ placeOf (now (holders .entry)) q ⌝ }
 {
     let i = q / 16;
@@ -90,7 +97,7 @@ pub fn place_at(holders: &[u16; 513], q: usize) -> usize
 }
 
 // The number after q of the place at which the next hold may be: the holder's next slot, or the first one of the next holder.
-pub fn next_place(s: &[u64], holders: &[u16; 513], found: usize, q: usize) -> usize
+pub fn next_place(s: &[u64], holders: &[u16; names::OBJECT_PLACES], found: usize, q: usize) -> usize
     requires { ⌜ (words ≤ length (now s)) × holds (sound (read (now s))) × Listed (read (now s)) (now holders) found × (q < 16 * found) ⌝ }
     ensures { λ r. ⌜ (r ≤ 16 * found) × Passed (λ i. isHold (read (now (s .entry))) (placeOf (now (holders .entry)) i)) (q + 1) r ⌝ }
 {

@@ -9,35 +9,34 @@ ghost use Rattle.rules.specs.Sound.{sound};
 ghost use Rattle.rules.specs.Checks.{refusal, templateChecks, taskChecks, eventChecks, blockChecks, dependenceChecks, satisfyChecks, releaseChecks, destroyChecks, deliverChecks, grantChecks, startChecks, endChecks};
 ghost use Rattle.checks.specs.CheckParts.{satisfyOrLinkChecks};
 
-pub mod fields;
 pub mod granting;
 pub mod holders;
-pub mod holding;
 pub mod objects;
 
 use crate::granting::blocks_remain;
 use crate::granting::is_free;
-use crate::holding::holds_block;
 use crate::objects::has_room;
 use crate::objects::is_block_or_null;
 use crate::objects::is_count;
 use crate::objects::is_destination;
 use crate::objects::is_destroyable;
-use crate::objects::is_fired_sticky;
-use crate::objects::is_gone;
 use crate::objects::is_idle;
-use crate::objects::is_kind;
 use crate::objects::is_made_or_null;
-use crate::objects::is_running;
 use crate::objects::is_source;
 use crate::objects::is_unclaimed;
-use crate::objects::overflows;
 use crate::objects::remains_or_null;
 use reading::has_slot;
+use reading::holds_block;
+use reading::is_fired_sticky;
+use reading::is_gone;
+use reading::is_kind;
 use reading::is_made;
+use reading::is_running;
 use reading::is_user_event;
 use reading::of_link;
 use reading::of_object;
+use reading::overflows;
+use rules::event_types::is_offered_type;
 use rules::refusals;
 use session::Field;
 use session::names;
@@ -96,10 +95,7 @@ pub fn event_refusal(s: &[u64], caller: u64, ty: u64) -> u64
     requires { ⌜ words ≤ length (now s) ⌝ }
     ensures { λ r. ⌜ r ≡ refusal (eventChecks (read (now (s .entry))) caller ty) ⌝ }
 {
-    if ty < names::ONCE {
-        return refusals::OUT_OF_RANGE;
-    }
-    if names::LATCH < ty {
+    if !is_offered_type(ty) {
         return refusals::OUT_OF_RANGE;
     }
     if !is_running(s, caller) {

@@ -9,7 +9,8 @@ use Rattle.rules.specs.Formula.{Formula, choose, Formula._≼_}
 use Rattle.rules.specs.FormulaLaws.{Case, decide, passes, fails, Case.it-does, Case.it-does-not}
 use Rattle.sheet_counts.specs.declared.Tally.{Tally}
 use Rattle.sheet_counts.specs.Answers.{noCounts}
-use Rattle.class_rules.specs.Report.{Entry, Class, stopped, followed, met, fits, sheetAt, entriesAt, classOf, head, entryLines, lastLine, report}
+use Rattle.class_rules.specs.Report.{Entry, Class, stopped, followed, met, fits, sheetAt, entriesAt, classOf, head, entryLines}
+use Rattle.class_rules.specs.Report.{lastLine, report}
 use Rattle.class_rules.specs.OnePass.{learnerOf, printed, kept, onePass, kept-learner, one-pass}
 use Rattle.class_rules.specs.Totals.{raisedBy, raised-more, lines-more, sums-totals}
 use Rattle.class.specs.Standing.{endText, sheetText, lengthText, turnText, learnerText, entriesText, countText, reportFrom}
@@ -21,7 +22,8 @@ textBy pending t c = let es = onePass pending (c .entries) in entryLines es ++ l
 
 -- an entry prints what it makes come of the pending one, and then what follows
 followed-text : (pending : List Entry) (t : Tally) (e : Entry) (c : Class)
-    → entryLines (printed pending e) ++ textBy (kept pending e ∷ []) (raisedBy t (printed pending e)) c ≡ textBy pending t (followed e c)
+    → entryLines (printed pending e) ++ textBy (kept pending e ∷ []) (raisedBy t (printed pending e)) c
+    ≡ textBy pending t (followed e c)
 unfolding textBy onePass
 followed-text pending t e c =
     let a = printed pending e in

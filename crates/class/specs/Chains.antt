@@ -14,7 +14,8 @@ use Rattle.class.specs.declared.Pending.the-variants.{Nobody, Somebody}
 use Rattle.class_rules.specs.Report.{report}
 use Rattle.class.specs.Standing.{textAt, reportFrom}
 use Rattle.class.specs.Begun.{begun-report}
-use Rattle.class.specs.Steps.{begun, entryOrLine, going, byte, Did, closed, after, taken, sheetTaken, asksAt, doesAt, does, handed}
+use Rattle.class.specs.Steps.{begun, entryOrLine, going, byte, Did, closed, after, taken, sheetTaken, asksAt, doesAt, does}
+use Rattle.class.specs.Steps.{handed}
 use Rattle.class.specs.StepLaws.{step-prints}
 
 -- Where a report of a file stands: its place in the file, the report, and the session in memory.
@@ -86,7 +87,9 @@ module _ (file : List ℕ) where
   said x = stepOf (x .at) (x .report) (x .session) .text
 
   abbrev pub onward : State → State
-  onward x = let d = stepOf (x .at) (x .report) (x .session) in state (x .at + length (handed file (x .at) (x .report))) (d .report) (d .session)
+  onward x =
+      let d = stepOf (x .at) (x .report) (x .session) in
+      state (x .at + length (handed file (x .at) (x .report))) (d .report) (d .session)
 
   pub data Went (x : State) : List ℕ → State → Type 0 where
     still : Went x [] x
@@ -96,10 +99,12 @@ module _ (file : List ℕ) where
       → bytes ++ reportFrom file (y .at) (y .report) ≡ reportFrom file (x .at) (x .report)
   went-prints x _ _ still = refl
   went-prints x _ _ (further bytes y w) =
-      append-assoc bytes (said y) _ ∙ ap (λ (l : List ℕ). bytes ++ l) (step-prints file (y .at) (y .report) (y .session)) ∙ went-prints x bytes y w
+      append-assoc bytes (said y) _ ∙ ap (λ (l : List ℕ). bytes ++ l) (step-prints file (y .at) (y .report) (y .session))
+      ∙ went-prints x bytes y w
 
   -- The theorem: steps from the start until nothing is left print the report, whatever the memory held.
-  pub went-report : (s : Session) (bytes : List ℕ) (y : State) → Went (state 0 begun s) bytes y → y .report .stage ≡ Nothing → bytes ≡ report file
+  pub went-report : (s : Session) (bytes : List ℕ) (y : State) → Went (state 0 begun s) bytes y → y .report .stage ≡ Nothing
+      → bytes ≡ report file
   unfolding reportFrom
   went-report s bytes y w e =
       sym (append-nil bytes)
@@ -118,7 +123,8 @@ module _ (file : List ℕ) where
   no-more at next r q h e = omega (arith, ap rank e)
 
   -- nor at a sheet behind an entry's numbers
-  pub sheet-fewer : (at next : ℕ) (r q : Report) → at < next → next ≤ length file → r .stage ≡ Learner → q .stage ≡ Sheet → stepsLeft next q ≤ stepsLeft at r
+  pub sheet-fewer : (at next : ℕ) (r q : Report) → at < next → next ≤ length file → r .stage ≡ Learner → q .stage ≡ Sheet
+      → stepsLeft next q ≤ stepsLeft at r
   unfolding stepsLeft rank
   sheet-fewer at next r q h inside e f = omega (arith, ap rank e, ap rank f)
 
@@ -127,7 +133,8 @@ module _ (file : List ℕ) where
     abbrev Fewer : List ℕ → Report → Stage → Type 0
     Fewer bytes next stage = 5 * (length file - (at + length bytes)) + rank (next .stage) < 5 * (length file - at) + rank stage
 
-    number-fewer : (stage : Stage) → 3 ≤ rank stage → (rest : List ℕ) → drop at file ≡ rest → Fewer (take 1 rest) (byte r stage (take 1 rest)) stage
+    number-fewer : (stage : Stage) → 3 ≤ rank stage → (rest : List ℕ) → drop at file ≡ rest
+        → Fewer (take 1 rest) (byte r stage (take 1 rest)) stage
     unfolding byte rank
     number-fewer stage h [] e = omega arith
     number-fewer stage h (b ∷ bs) e =

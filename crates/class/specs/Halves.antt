@@ -21,7 +21,8 @@ use Rattle.number.specs.Number.{limit32}
 use Rattle.number.specs.Fed.{fed}
 use Rattle.turns.specs.Places.{least}
 use Rattle.class_rules.specs.Report.{mostBytes, fits}
-use Rattle.class.specs.Steps.{going, valued, numbered, byte, Did, turnedIn, sheetOf, pendingIn, closed, superseded, after, taken, sheetTaken, doesAt, does}
+use Rattle.class.specs.Steps.{going, valued, numbered, byte, Did, turnedIn, sheetOf, pendingIn, closed, superseded, after}
+use Rattle.class.specs.Steps.{taken, sheetTaken, doesAt, does}
 
 -- where the half begins in which no pending sheet lies
 unfoldable pub freeHalf : Pending → ℕ
@@ -40,7 +41,8 @@ pub record Apart (room room′ : List ℕ) (place n : ℕ) : Type 0 where
   pub back : drop (place + n) room′ ≡ drop (place + n) room
 
 -- What is read into the free half leaves the pending sheet as it is.
-same-sheet : (room room′ : List ℕ) (n : ℕ) (p : Turned) → n ≤ mostBytes → InHalf (Somebody p) → Apart room room′ (freeHalf (Somebody p)) n
+same-sheet : (room room′ : List ℕ) (n : ℕ) (p : Turned) → n ≤ mostBytes → InHalf (Somebody p)
+    → Apart room room′ (freeHalf (Somebody p)) n
     → sheetOf room′ p ≡ sheetOf room p
 unfolding freeHalf
 same-sheet room room′ n p few h a = go (h .0)
@@ -49,17 +51,21 @@ same-sheet room room′ n p few h a = go (h .0)
     go (inl e) =
         let front : take mostBytes room′ ≡ take mostBytes room = rw (choose-yes (p .place ≐ 0) mostBytes 0 e) at (a .front) in
         rw e
-        (sym (take-take (p .length) mostBytes room′ (h .1)) ∙ ap (take (p .length)) front ∙ take-take (p .length) mostBytes room (h .1))
+        (sym (take-take (p .length) mostBytes room′ (h .1)) ∙ ap (take (p .length)) front
+        ∙ take-take (p .length) mostBytes room (h .1))
     go (inr e) =
         let from = freeHalf (Somebody p) + n in
         let k : from + (mostBytes - n) ≡ p .place = omega (arith, choose-no (p .place ≐ 0) mostBytes 0 (λ z. omega arith)) in
         ap (take (p .length))
-        (rw (sym k) (sym (drop-drop (mostBytes - n) from room′) ∙ ap (drop (mostBytes - n)) (a .back) ∙ drop-drop (mostBytes - n) from room))
+        (rw (sym k)
+        (sym (drop-drop (mostBytes - n) from room′) ∙ ap (drop (mostBytes - n)) (a .back) ∙ drop-drop (mostBytes - n) from room))
 
-pub pending-stays : (room room′ : List ℕ) (n : ℕ) (p : Pending) → n ≤ mostBytes → InHalf p → Apart room room′ (freeHalf p) n → pendingIn room′ p ≡ pendingIn room p
+pub pending-stays : (room room′ : List ℕ) (n : ℕ) (p : Pending) → n ≤ mostBytes → InHalf p → Apart room room′ (freeHalf p) n
+    → pendingIn room′ p ≡ pendingIn room p
 pending-stays room room′ n Nobody few h a = refl
 pending-stays room room′ n (Somebody p) few h a =
-    ap (λ (sheet : List ℕ). record { learner = p .learner; turn = p .turn; sheet = sheet } ∷ []) (same-sheet room room′ n p few h a)
+    ap (λ (sheet : List ℕ). record { learner = p .learner; turn = p .turn; sheet = sheet } ∷ [])
+    (same-sheet room room′ n p few h a)
 
 pub free-most : (p : Pending) → freeHalf p ≤ mostBytes
 unfolding freeHalf
@@ -94,14 +100,17 @@ byte-pending r stage (b ∷ more) = go (fed limit32 (r .number) b)
     go (Whole v) = valued-pending r stage v
     go Bad = refl
 
-module _ (room : List ℕ) (at : ℕ) (bytes : List ℕ) (r : Report) (s : Session) (long : mostBytes ≤ length room) (half : (at ≡ 0) ⊎ (at ≡ mostBytes)) (h : InHalf (r .pending)) where
+module _ (room : List ℕ) (at : ℕ) (bytes : List ℕ) (r : Report) (s : Session) (long : mostBytes ≤ length room) (half : (at ≡ 0)
+    ⊎ (at ≡ mostBytes)) (h : InHalf (r .pending)) where
   Halved : Did → Type 0
   Halved d = InHalf (d .report .pending)
 
-  superseded-half : (p : Turned) → r .length ≤ mostBytes → InHalf (Somebody p) → InHalf (Somebody (superseded room p (turnedIn r at)))
+  superseded-half : (p : Turned) → r .length ≤ mostBytes → InHalf (Somebody p)
+      → InHalf (Somebody (superseded room p (turnedIn r at)))
   unfolding superseded
   superseded-half p few i =
-      let stays : least (p .place) (length room) ≡ p .place = choose-yes (p .place ≼ length room) (p .place) (length room) (inside (i .0)) in
+      let stays : least (p .place) (length room) ≡ p .place =
+      choose-yes (p .place ≼ length room) (p .place) (length room) (inside (i .0)) in
       choose-case (λ (q : Turned). InHalf (Somebody q)) (p .turn ≼ r .turn) _ _ (λ _. (half, few)) (λ _. (rw stays (i .0), i .1))
     where
       inside : (p .place ≡ 0) ⊎ (p .place ≡ mostBytes) → p .place ≤ length room

@@ -1,5 +1,5 @@
--- What is still printed from where a report stands: the report by one pass with a pending entry, with the sums as the tally has them
--- and the numbers as the byte-fed reader reads them.
+-- What is still printed from where a report stands: the report by one pass with a pending entry, with the sums as the tally has
+-- them and the numbers as the byte-fed reader reads them.
 use Prim.Native.Nat.{ℕ, zero, suc, _+_, _-_}
 use mathlib.Core.List.{List, [], _∷_, _++_}
 use lib.ListN.{drop}

@@ -31,12 +31,15 @@ use Rattle.turns.specs.Places.{drop-least}
 use Rattle.class_rules.specs.Report.{Entry, mostBytes, met, fits, sheetAt, entryLine, entryLines, lastLine}
 use Rattle.class_rules.specs.OnePass.{learnerOf, superseding, printed, kept}
 use Rattle.class_rules.specs.Totals.{raisedBy}
-use Rattle.class.specs.Standing.{endText, sheetText, lengthText, turnText, learnerText, entriesText, countText, textAt, reportFrom}
-use Rattle.class.specs.Steps.{stopping, entryOrLine, going, valued, numbered, byte, Did, turnedIn, sheetOf, entryOf, pendingIn, closed, superseded, after, taken, sheetTaken, asksAt, doesAt, does, handed}
+use Rattle.class.specs.Standing.{endText, sheetText, lengthText, turnText, learnerText, entriesText, countText, textAt}
+use Rattle.class.specs.Standing.{reportFrom}
+use Rattle.class.specs.Steps.{stopping, entryOrLine, going, valued, numbered, byte, Did, turnedIn, sheetOf, entryOf}
+use Rattle.class.specs.Steps.{pendingIn, closed, superseded, after, taken, sheetTaken, asksAt, doesAt, does, handed}
 
 module _ (file : List ℕ) where
   -- with so many entries left, a pending sheet and a tally, the lines of those and the last line are printed
-  going-text : (at left : ℕ) (p : Pending) (t : Tally) → reportFrom file at (going left p t) ≡ entriesText file left at (pendingIn file p) t
+  going-text : (at left : ℕ) (p : Pending) (t : Tally)
+      → reportFrom file at (going left p t) ≡ entriesText file left at (pendingIn file p) t
   unfolding reportFrom going entryOrLine entriesText
   going-text at zero p t = refl
   going-text at (suc left) p t =
@@ -48,7 +51,8 @@ module _ (file : List ℕ) where
   abbrev Prints : ℕ → Did → List ℕ → Type 0
   Prints next d x = d .text ++ reportFrom file next (d .report) ≡ x
 
-  stop-prints : (r : Report) (n next : ℕ) → reportFrom file next (stopping r n) ≡ endText (pendingIn file (r .pending)) (r .tally) n
+  stop-prints : (r : Report) (n next : ℕ)
+      → reportFrom file next (stopping r n) ≡ endText (pendingIn file (r .pending)) (r .tally) n
   unfolding reportFrom
   stop-prints r n next = refl
 
@@ -57,9 +61,11 @@ module _ (file : List ℕ) where
     cut : prints CutShort ≡ endText (pendingIn file (r .pending)) (r .tally) 3
     bad : (n : ℕ) → prints (BadNumber n) ≡ endText (pendingIn file (r .pending)) (r .tally) 4
     whole : (v n : ℕ) → reportFrom file n (valued r stage v) ≡ prints (Value v n)
-    more : (next : Reader) (n : ℕ) → reportFrom file n (numbered r stage (More next)) ≡ prints (feeds limit32 next (drop n file) n)
+    more : (next : Reader) (n : ℕ)
+        → reportFrom file n (numbered r stage (More next)) ≡ prints (feeds limit32 next (drop n file) n)
 
-  number-step : (at : ℕ) (r : Report) (stage : Stage) (prints : Reading → List ℕ) → Reads r stage prints → (rest : List ℕ) → drop at file ≡ rest
+  number-step : (at : ℕ) (r : Report) (stage : Stage) (prints : Reading → List ℕ) → Reads r stage prints → (rest : List ℕ)
+      → drop at file ≡ rest
       → reportFrom file (at + length (take 1 rest)) (byte r stage (take 1 rest)) ≡ prints (feeds limit32 (r .number) rest at)
   unfolding byte feeds numbered
   number-step at r stage prints x [] e = stop-prints r 3 _ ∙ sym (x .cut)
@@ -68,7 +74,9 @@ module _ (file : List ℕ) where
       next-bytes : drop (at + 1) file ≡ bs
       next-bytes = sym (drop-drop 1 at file) ∙ ap (drop 1) e
 
-      go : (f : Fed) → reportFrom file (at + 1) (numbered r stage f) ≡ prints (elim f [ More next ↦ feeds limit32 next bs (at + 1) | Whole v ↦ Value v (at + 1) | Bad ↦ BadNumber (at + 1) ])
+      go : (f : Fed)
+          → reportFrom file (at + 1) (numbered r stage f)
+          ≡ prints (elim f [ More next ↦ feeds limit32 next bs (at + 1) | Whole v ↦ Value v (at + 1) | Bad ↦ BadNumber (at + 1) ])
       go (More next) = x .more next (at + 1) ∙ rw next-bytes refl
       go (Whole v) = x .whole v (at + 1)
       go Bad = stop-prints r 4 _ ∙ sym (x .bad (at + 1))
@@ -80,36 +88,45 @@ module _ (file : List ℕ) where
     where
       go : Case (p .turn ≼ e .turn) → entryOf file (superseded file p e) ≡ superseding (entryOf file p) (entryOf file e)
       go (it-does h) =
-          ap (entryOf file) (choose-yes (p .turn ≼ e .turn) e _ h) ∙ sym (choose-yes (p .turn ≼ e .turn) (entryOf file e) (entryOf file p) h)
+          ap (entryOf file) (choose-yes (p .turn ≼ e .turn) e _ h)
+          ∙ sym (choose-yes (p .turn ≼ e .turn) (entryOf file e) (entryOf file p) h)
       go (it-does-not n) =
           ap (entryOf file) (choose-no (p .turn ≼ e .turn) e _ n)
-          ∙ ap (λ (l : List ℕ). record { learner = p .learner; turn = p .turn; sheet = take (p .length) l }) (drop-least (p .place) file)
+          ∙ ap (λ (l : List ℕ). record { learner = p .learner; turn = p .turn; sheet = take (p .length) l })
+          (drop-least (p .place) file)
           ∙ sym (choose-no (p .turn ≼ e .turn) (entryOf file e) (entryOf file p) n)
 
   module _ (r : Report) where
     count-reads : Reads r Count (countText file (pendingIn file (r .pending)) (r .tally))
     unfolding countText met valued numbered reportFrom
-    count-reads = record { cut = refl; bad = λ n. refl; whole = λ v n. going-text n v (r .pending) (r .tally); more = λ next n. refl }
+    count-reads =
+        record { cut = refl; bad = λ n. refl; whole = λ v n. going-text n v (r .pending) (r .tally); more = λ next n. refl }
 
     learner-reads : Reads r Learner (learnerText file (entriesText file (r .left - 1)) (pendingIn file (r .pending)) (r .tally))
     unfolding learnerText met valued numbered reportFrom
     learner-reads = record {
       cut = refl;
       bad = λ n. refl;
-      whole = λ v n. ap (turnText file (entriesText file (r .left - 1)) (pendingIn file (r .pending)) v (r .tally)) (feeds-reads limit32 file n);
+      whole =
+          λ v n. ap (turnText file (entriesText file (r .left - 1)) (pendingIn file (r .pending)) v (r .tally))
+          (feeds-reads limit32 file n);
       more = λ next n. refl;
     }
 
-    turn-reads : Reads r Turn (turnText file (entriesText file (r .left - 1)) (pendingIn file (r .pending)) (r .learner) (r .tally))
+    turn-reads : Reads r Turn
+        (turnText file (entriesText file (r .left - 1)) (pendingIn file (r .pending)) (r .learner) (r .tally))
     unfolding turnText met valued numbered reportFrom
     turn-reads = record {
       cut = refl;
       bad = λ n. refl;
-      whole = λ v n. ap (lengthText file (entriesText file (r .left - 1)) (pendingIn file (r .pending)) (r .learner) v (r .tally)) (feeds-reads limit32 file n);
+      whole =
+          λ v n. ap (lengthText file (entriesText file (r .left - 1)) (pendingIn file (r .pending)) (r .learner) v (r .tally))
+          (feeds-reads limit32 file n);
       more = λ next n. refl;
     }
 
-    length-reads : Reads r Length (lengthText file (entriesText file (r .left - 1)) (pendingIn file (r .pending)) (r .learner) (r .turn) (r .tally))
+    length-reads : Reads r Length
+        (lengthText file (entriesText file (r .left - 1)) (pendingIn file (r .pending)) (r .learner) (r .turn) (r .tally))
     unfolding lengthText met valued numbered reportFrom
     length-reads = record { cut = refl; bad = λ n. refl; whole = λ v n. refl; more = λ next n. refl }
 
@@ -117,7 +134,8 @@ module _ (file : List ℕ) where
     followText : List Entry → Entry → ℕ → List ℕ
     followText pending e next =
         choose (learnerOf pending ≼ e .learner)
-        (entryLines (printed pending e) ++ entriesText file (r .left - 1) next (kept pending e ∷ []) (raisedBy (r .tally) (printed pending e)))
+        (entryLines (printed pending e)
+        ++ entriesText file (r .left - 1) next (kept pending e ∷ []) (raisedBy (r .tally) (printed pending e)))
         (endText pending (r .tally) 23)
 
     after-prints : (s : Session) (at next : ℕ) (p : Turned) → r .pending ≡ Somebody p
@@ -128,7 +146,8 @@ module _ (file : List ℕ) where
         go : Case (p .learner ≼ r .learner) → Case (p .learner ≐ r .learner)
             → Prints next (after file r s at p) (followText (entryOf file p ∷ []) (entryOf file (turnedIn r at)) next)
         go (it-does-not n) _ =
-            rw (fails (p .learner ≼ r .learner) n) (stop-prints r 23 next ∙ ap (λ (q : Pending). endText (pendingIn file q) (r .tally) 23) e)
+            rw (fails (p .learner ≼ r .learner) n)
+            (stop-prints r 23 next ∙ ap (λ (q : Pending). endText (pendingIn file q) (r .tally) 23) e)
         go (it-does h) (it-does same) =
             rw (passes (p .learner ≼ r .learner) h, passes (p .learner ≐ r .learner) same)
             (going-text next (r .left - 1) (Somebody (superseded file p (turnedIn r at))) (r .tally)
@@ -137,17 +156,20 @@ module _ (file : List ℕ) where
             let counts = countsOf (sheetOf file p) in
             let line = entryLine (p .learner) (p .turn) counts in
             rw (passes (p .learner ≼ r .learner) h, fails (p .learner ≐ r .learner) other)
-            (ap (λ (l : List ℕ). line ++ l) (going-text next (r .left - 1) (Somebody (turnedIn r at)) (raise (r .tally) counts)) ∙ sym (append-assoc line [] _))
+            (ap (λ (l : List ℕ). line ++ l) (going-text next (r .left - 1) (Somebody (turnedIn r at)) (raise (r .tally) counts))
+            ∙ sym (append-assoc line [] _))
 
     taken-prints : (s : Session) (at next : ℕ) (p : Pending) → r .pending ≡ p
         → Prints next (taken file r s at p) (followText (pendingIn file p) (entryOf file (turnedIn r at)) next)
     unfolding taken followText learnerOf printed kept entryLines raisedBy
     taken-prints s at next Nobody e =
-        going-text next (r .left - 1) (Somebody (turnedIn r at)) (r .tally) ∙ sym (choose-yes (0 ≼ r .learner) _ (endText [] (r .tally) 23) (omega arith))
+        going-text next (r .left - 1) (Somebody (turnedIn r at)) (r .tally)
+        ∙ sym (choose-yes (0 ≼ r .learner) _ (endText [] (r .tally) 23) (omega arith))
     taken-prints s at next (Somebody p) e = after-prints s at next p e
 
     -- the pending sheet's line, if there is one, and the last line
-    closed-prints : (s : Session) (at : ℕ) (p : Pending) → Prints at (closed file r s p) (endText (pendingIn file p) (r .tally) (r .stop))
+    closed-prints : (s : Session) (at : ℕ) (p : Pending)
+        → Prints at (closed file r s p) (endText (pendingIn file p) (r .tally) (r .stop))
     unfolding closed reportFrom endText entryLines raisedBy
     closed-prints s at Nobody = refl
     closed-prints s at (Somebody p) = sym (append-assoc (entryLine (p .learner) (p .turn) (countsOf (sheetOf file p))) [] _)
@@ -156,7 +178,8 @@ module _ (file : List ℕ) where
     sheetPrints : Session → ℕ → List ℕ → Type 0
     sheetPrints s at bytes =
         Prints (at + length bytes) (sheetTaken file r s at bytes)
-        (sheetText file (entriesText file (r .left - 1)) (pendingIn file (r .pending)) (r .learner) (r .turn) (r .tally) (r .length) at)
+        (sheetText file (entriesText file (r .left - 1)) (pendingIn file (r .pending)) (r .learner) (r .turn) (r .tally)
+        (r .length) at)
 
     sheet-whole : (s : Session) (at : ℕ) → holds (fits file at (r .length)) → sheetPrints s at (sheetAt file at (r .length))
     unfolding sheetPrints sheetText sheetTaken followText
@@ -164,21 +187,26 @@ module _ (file : List ℕ) where
         let size = r .length in
         let sheet = sheetAt file at size in
         let n : length sheet ≡ size = length-take-le size (drop at file) (h .1) in
-        rw (passes (fits file at size) h, passes (fits sheet 0 size) (h .0, omega arith), n) (taken-prints s at (at + size) (r .pending) refl)
+        rw (passes (fits file at size) h, passes (fits sheet 0 size) (h .0, omega arith), n)
+        (taken-prints s at (at + size) (r .pending) refl)
 
-    sheet-not : (s : Session) (at : ℕ) (bytes : List ℕ) → (holds (fits file at (r .length)) → ⊥) → (holds (fits bytes 0 (r .length)) → ⊥) → sheetPrints s at bytes
+    sheet-not : (s : Session) (at : ℕ) (bytes : List ℕ) → (holds (fits file at (r .length)) → ⊥)
+        → (holds (fits bytes 0 (r .length)) → ⊥) → sheetPrints s at bytes
     unfolding sheetPrints sheetText sheetTaken
-    sheet-not s at bytes n m = rw (fails (fits file at (r .length)) n, fails (fits bytes 0 (r .length)) m) (stop-prints r 22 (at + length bytes))
+    sheet-not s at bytes n m =
+        rw (fails (fits file at (r .length)) n, fails (fits bytes 0 (r .length)) m) (stop-prints r 22 (at + length bytes))
 
     sheet-step : (s : Session) (at : ℕ) → sheetPrints s at (take (asksAt r Sheet) (drop at file))
     unfolding asksAt
     sheet-step s at = go (decide (fits file at (r .length))) (decide (r .length ≼ mostBytes))
       where
-        go : Case (fits file at (r .length)) → Case (r .length ≼ mostBytes) → sheetPrints s at (take (choose (r .length ≼ mostBytes) (r .length) 0) (drop at file))
+        go : Case (fits file at (r .length)) → Case (r .length ≼ mostBytes)
+            → sheetPrints s at (take (choose (r .length ≼ mostBytes) (r .length) 0) (drop at file))
         go (it-does h) _ = rw (choose-yes (r .length ≼ mostBytes) (r .length) 0 (h .0)) (sheet-whole s at h)
         go (it-does-not n) (it-does l) =
             rw (choose-yes (r .length ≼ mostBytes) (r .length) 0 l)
-            (sheet-not s at (sheetAt file at (r .length)) n (λ m. n (l, omega (arith, m .1, length-take (r .length) (drop at file)))))
+            (sheet-not s at (sheetAt file at (r .length)) n
+            (λ m. n (l, omega (arith, m .1, length-take (r .length) (drop at file)))))
         go (it-does-not n) (it-does-not l) =
             rw (choose-no (r .length ≼ mostBytes) (r .length) 0 l) (sheet-not s at [] n (λ m. l (m .0)))
 

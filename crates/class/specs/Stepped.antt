@@ -7,7 +7,7 @@ use lib.ListN.{length, getD}
 use Rattle.number.specs.Number.{limit32}
 use Rattle.number.specs.Fed.{fed}
 use Rattle.number.specs.declared.reader.Fed.{Fed}
-use Rattle.session.specs.Table.{Session, Wrote, read}
+use Rattle.session.specs.Table.{Session, Wrote, read, words}
 use Rattle.session.specs.TableLaws.{wrote-none}
 use Rattle.session.specs.Fresh.{freshSession}
 use Rattle.rules.specs.Formula.{holds}
@@ -29,7 +29,12 @@ use Rattle.class.specs.declared.Pending.the-variants.{Nobody, Somebody}
 use Rattle.class.specs.declared.Step.{Step}
 use Rattle.class.specs.declared.steps.Shown.{Shown}
 use Rattle.class_rules.specs.Report.{entryLine}
-use Rattle.class.specs.Steps.{stopping, numbered, byte, Did, did, sheetOf, ran, closed, after, taken, sheetTaken, doesAt, does}
+use Rattle.class.specs.Steps.{stopping, numbered, byte, Did, did, sheetOf, ran, closed, after, taken, sheetTaken, doesAt}
+use Rattle.class.specs.Steps.{does}
+
+-- what a step asks of the memories lent to it: a kept session, and room for a line
+abbrev pub Lent : List ℕ → List ℕ → Type 0
+Lent memory lines = (words ≤ length memory) × holds (kept (read memory)) × (128 ≤ length lines)
 
 -- where the report stands, and the line at the start of the memory, within the room for one
 pub record Told (lines lines′ : List ℕ) (x : Step) (r : Report) (text : List ℕ) : Type 0 where
@@ -55,7 +60,8 @@ pub record Took (r : Report) (room : List ℕ) (at : ℕ) (bytes before after li
   pub keeps : holds (kept (read after))
 
 -- what was told of a step is told of one that is equal
-pub moved-as : {before after lines lines′ : List ℕ} {x : Step} {d e : Did} → d ≡ e → Moved before after lines lines′ x e → Moved before after lines lines′ x d
+pub moved-as : {before after lines lines′ : List ℕ} {x : Step} {d e : Did} → d ≡ e → Moved before after lines lines′ x e
+    → Moved before after lines lines′ x d
 moved-as p m = rw p m
 
 -- a step that leaves the session as it is, and one that prints nothing either
@@ -63,11 +69,13 @@ pub moved-told : (memory : List ℕ) {lines lines′ : List ℕ} {x : Step} {r :
     → Moved memory memory lines lines′ x (did r text (read memory))
 moved-told memory t = record { told = t; session = wrote-none memory }
 
-pub moved-still : (memory lines : List ℕ) (x : Step) (r : Report) → x .report ≡ r → x .used ≡ 0 → Moved memory memory lines lines x (did r [] (read memory))
+pub moved-still : (memory lines : List ℕ) (x : Step) (r : Report) → x .report ≡ r → x .used ≡ 0
+    → Moved memory memory lines lines x (did r [] (read memory))
 moved-still memory lines x r e z = moved-told memory (record { report = e; line = rw z (put-none lines 0); short = omega arith })
 
 -- a step that runs a sheet
-pub moved-ran : (room : List ℕ) (sheet : Turned) (next : Tally → Report) (t : Tally) {before after lines lines′ : List ℕ} {x : Step} {shown : Shown}
+pub moved-ran : (room : List ℕ) (sheet : Turned) (next : Tally → Report)
+    (t : Tally) {before after lines lines′ : List ℕ} {x : Step} {shown : Shown}
     → Ran room sheet t before after lines lines′ shown → x .report ≡ next (shown .tally) → x .used ≡ shown .used
     → Moved before after lines lines′ x (ran room sheet next t)
 moved-ran room sheet next t s e u = record {
@@ -107,8 +115,10 @@ module _ (room : List ℕ) (at : ℕ) (bytes : List ℕ) (r : Report) (s : Sessi
   step-keeps Nothing = k
 
 -- a step at a stage is the step
-module _ (r : Report) (room : List ℕ) (at : ℕ) (bytes before after lines lines′ : List ℕ) (x : Step) (stage : Stage) (e : r .stage ≡ stage) (k : holds (kept (read before))) where
-  pub took-at : Moved before after lines lines′ x (doesAt room at bytes r (read before) stage) → Took r room at bytes before after lines lines′ x
+module _ (r : Report) (room : List ℕ) (at : ℕ) (bytes before after lines lines′ : List ℕ) (x : Step) (stage : Stage)
+    (e : r .stage ≡ stage) (k : holds (kept (read before))) where
+  pub took-at : Moved before after lines lines′ x (doesAt room at bytes r (read before) stage)
+      → Took r room at bytes before after lines lines′ x
   unfolding Keeps
   took-at m = record {
     moved = subst (λ (st : Stage). Moved before after lines lines′ x (doesAt room at bytes r (read before) st)) (sym e) m;
@@ -116,8 +126,10 @@ module _ (r : Report) (room : List ℕ) (at : ℕ) (bytes before after lines lin
   }
 
 -- a step that takes a byte of a number
-module _ (r : Report) (room : List ℕ) (at : ℕ) (bytes memory lines : List ℕ) (x : Step) (stage : Stage) (e : r .stage ≡ stage) (k : holds (kept (read memory))) where
-  pub took-byte : doesAt room at bytes r (read memory) stage ≡ did (byte r stage bytes) [] (read memory) → x .report ≡ byte r (r .stage) bytes → x .used ≡ 0
+module _ (r : Report) (room : List ℕ) (at : ℕ) (bytes memory lines : List ℕ) (x : Step) (stage : Stage) (e : r .stage ≡ stage)
+    (k : holds (kept (read memory))) where
+  pub took-byte : doesAt room at bytes r (read memory) stage ≡ did (byte r stage bytes) [] (read memory)
+      → x .report ≡ byte r (r .stage) bytes → x .used ≡ 0
       → Took r room at bytes memory memory lines lines x
   took-byte is told none =
       took-at r room at bytes memory memory lines lines x stage e k
@@ -130,7 +142,8 @@ module _ (r : Report) (stage : Stage) where
   byte-none [] h = refl
   byte-none (b ∷ more) h = absurd (omega arith)
 
-  pub byte-some : (bytes : List ℕ) (f : Fed) → 0 < length bytes → f ≡ fed limit32 (r .number) (getD bytes 0 0) → numbered r stage f ≡ byte r stage bytes
+  pub byte-some : (bytes : List ℕ) (f : Fed) → 0 < length bytes → f ≡ fed limit32 (r .number) (getD bytes 0 0)
+      → numbered r stage f ≡ byte r stage bytes
   unfolding byte
   byte-some [] f h e = absurd (omega arith)
   byte-some (b ∷ more) f h e = rw e refl

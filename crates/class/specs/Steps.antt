@@ -1,6 +1,6 @@
--- A report step by step: it asks for some bytes of the class file, is handed those or, at the file's end, fewer, and prints at most
--- one line. A sheet stays pending until an entry of another learner comes, a stop or the end. So a file of any length is reported from
--- memory for two sheets.
+-- A report step by step: it asks for some bytes of the class file, is handed those or, at the
+-- file's end, fewer, and prints at most one line. A sheet stays pending until an entry of another
+-- learner comes, a stop or the end. So a file of any length is reported from memory for two sheets.
 use Prim.Native.Nat.{ℕ, zero, suc, _-_}
 use mathlib.Core.Bool.{Bool, true, false}
 use mathlib.Core.List.{List, [], _∷_}
@@ -30,7 +30,18 @@ use Rattle.class_rules.specs.Report.{Entry, mostBytes, fits, sheetAt, head, ent
 
 -- A report that has printed and read nothing.
 unfoldable pub begun : Report
-begun = record { stage = Head; number = start; left = 0; learner = 0; turn = 0; length = 0; stop = 0; pending = Nobody; tally = noCounts }
+begun =
+    record {
+      stage = Head;
+      number = start;
+      left = 0;
+      learner = 0;
+      turn = 0;
+      length = 0;
+      stop = 0;
+      pending = Nobody;
+      tally = noCounts;
+    }
 
 -- A report at a stage, with so much of a number read.
 abbrev pub fedTo : Report → Stage → Reader → Report
@@ -216,7 +227,8 @@ module _ (room : List ℕ) where
   -- Of two sheets of one learner, the pending one and a later entry's, the one that supersedes.
   unfoldable pub superseded : Turned → Turned → Turned
   superseded p e =
-      choose (p .turn ≼ e .turn) e (record { learner = p .learner; turn = p .turn; place = least (p .place) (length room); length = p .length })
+      choose (p .turn ≼ e .turn) e
+      (record { learner = p .learner; turn = p .turn; place = least (p .place) (length room); length = p .length })
 
   -- An entry's sheet where somebody is pending: 23, another turn of that learner, or another learner.
   unfoldable pub after : Report → Session → ℕ → Turned → Did

@@ -14,12 +14,13 @@ use sheet_counts::Tally;
 ghost use Prim.Native.Nat.{_≤_, _-_};
 ghost use mathlib.Core.Path.{_≡_};
 ghost use lib.ListN.{length, take, drop};
-ghost use Rattle.session.specs.Table.{read, words};
-ghost use Rattle.rules.specs.Formula.{holds, choose, Formula._≼_};
+ghost use Rattle.session.specs.Table.{read};
+ghost use Rattle.rules.specs.Formula.{choose, Formula._≼_};
 ghost use Rattle.rules.specs.Sound.{kept};
 ghost use Rattle.class_rules.specs.Report.{mostBytes, head, lastLine};
-ghost use Rattle.class.specs.Steps.{begun, isOver, asks, fedTo, turned, stopping, entryTo, entryOrLine, going, valued, byte, turnedIn, closing, closed, holding, superseded, after, taken, sheetTaken};
-ghost use Rattle.class.specs.Stepped.{Told, Moved, Ran, Took};
+ghost use Rattle.class.specs.Steps.{begun, isOver, asks, fedTo, turned, stopping, entryTo, entryOrLine, going, valued};
+ghost use Rattle.class.specs.Steps.{byte, turnedIn, closing, closed, holding, superseded, after, taken, sheetTaken};
+ghost use Rattle.class.specs.Stepped.{Lent, Told, Moved, Ran, Took};
 
 // The longest sheet, as lengths are read.
 pub const MOST: u64 = MOST_BYTES as u64;
@@ -246,7 +247,7 @@ fn run_sheet(
     memory: &mut [u64],
     lines: &mut [u8],
 ) -> Shown
-    requires { ⌜ (words ≤ length (now memory)) × holds (kept (read (now memory))) × (128 ≤ length (now lines)) ⌝ }
+    requires { ⌜ Lent (now memory) (now lines) ⌝ }
     ensures { λ r. ⌜
         Ran (now (room .entry)) sheet tally (now (memory .entry)) (now (memory .exit)) (now (lines .entry)) (now (lines .exit)) r
         ⌝ }
@@ -282,7 +283,7 @@ fn close(report: Report, tally: Tally) -> Report
 
 // Prints the line of the pending sheet, if there is one.
 fn print_pending(report: Report, room: &[u8], memory: &mut [u64], lines: &mut [u8]) -> Step
-    requires { ⌜ (words ≤ length (now memory)) × holds (kept (read (now memory))) × (128 ≤ length (now lines)) ⌝ }
+    requires { ⌜ Lent (now memory) (now lines) ⌝ }
     ensures { λ r. ⌜
         Moved (now (memory .entry)) (now (memory .exit)) (now (lines .entry)) (now (lines .exit)) r
         (closed (now (room .entry)) report (read (now (memory .entry))) (report .pending))
@@ -372,7 +373,7 @@ fn take_after(
     memory: &mut [u64],
     lines: &mut [u8],
 ) -> Step
-    requires { ⌜ (words ≤ length (now memory)) × holds (kept (read (now memory))) × (128 ≤ length (now lines)) ⌝ }
+    requires { ⌜ Lent (now memory) (now lines) ⌝ }
     requires { ⌜ place ≤ length (now room) ⌝ }
     ensures { λ r. ⌜
         Moved (now (memory .entry)) (now (memory .exit)) (now (lines .entry)) (now (lines .exit)) r
@@ -403,7 +404,7 @@ fn take_whole(
     memory: &mut [u64],
     lines: &mut [u8],
 ) -> Step
-    requires { ⌜ (words ≤ length (now memory)) × holds (kept (read (now memory))) × (128 ≤ length (now lines)) ⌝ }
+    requires { ⌜ Lent (now memory) (now lines) ⌝ }
     requires { ⌜ place ≤ length (now room) ⌝ }
     ensures { λ r. ⌜
         Moved (now (memory .entry)) (now (memory .exit)) (now (lines .entry)) (now (lines .exit)) r
@@ -429,7 +430,7 @@ fn take_sheet(
     memory: &mut [u64],
     lines: &mut [u8],
 ) -> Step
-    requires { ⌜ (words ≤ length (now memory)) × holds (kept (read (now memory))) × (128 ≤ length (now lines)) ⌝ }
+    requires { ⌜ Lent (now memory) (now lines) ⌝ }
     requires { ⌜ (place ≤ end) × (end ≤ length (now room)) ⌝ }
     ensures { λ r. ⌜
         Moved (now (memory .entry)) (now (memory .exit)) (now (lines .entry)) (now (lines .exit)) r
@@ -478,7 +479,7 @@ pub fn take(
     memory: &mut [u64],
     lines: &mut [u8],
 ) -> Step
-    requires { ⌜ (words ≤ length (now memory)) × holds (kept (read (now memory))) × (128 ≤ length (now lines)) ⌝ }
+    requires { ⌜ Lent (now memory) (now lines) ⌝ }
     requires { ⌜ (place ≤ end) × (end ≤ length (now room)) ⌝ }
     ensures { λ r. ⌜
         Took report (now (room .entry)) place (take (end - place) (drop place (now (room .entry)))) (now (memory .entry)) (now (memory .exit))

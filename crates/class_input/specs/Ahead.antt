@@ -1,5 +1,5 @@
--- What may have been read of standard input ahead of what is asked for: no more than is sure to come, unless the report stops. So no
--- byte after the last sheet is read.
+-- What may have been read of standard input ahead of what is asked for: no more than
+-- is sure to come, unless the report stops. So no byte after the last sheet is read.
 use Prim.Native.Nat.{ℕ, zero, suc, _+_, _*_, _-_, _≤_}
 use mathlib.Core.List.{List, [], _∷_}
 use mathlib.Core.Path.{_≡_, refl}
@@ -19,7 +19,8 @@ use Rattle.class.specs.declared.Pending.{Pending}
 use Rattle.class.specs.declared.Pending.the-variants.{Nobody, Somebody}
 use Rattle.class.specs.declared.Stage.{Stage}
 use Rattle.class.specs.declared.Stage.the-variants.{Head, Count, Learner, Turn, Length, Sheet, Line, Last, Nothing}
-use Rattle.class.specs.Steps.{begun, entryOrLine, going, valued, numbered, byte, Did, closed, after, taken, sheetTaken, asksAt, asks, doesAt, does}
+use Rattle.class.specs.Steps.{begun, entryOrLine, going, valued, numbered, byte, Did, closed, after, taken, sheetTaken, asksAt}
+use Rattle.class.specs.Steps.{asks, doesAt, does}
 
 -- the entries behind this one have three numbers each, and a number has a byte at least
 abbrev pub behind : ℕ → ℕ
@@ -71,7 +72,8 @@ asked-at r n Learner some a = omega arith
 asked-at r n Turn some a = omega arith
 asked-at r n Length some a = omega arith
 asked-at r n Sheet some a =
-    choose-case (λ k. k + behind (r .left) ≤ r .length + behind (r .left)) (r .length ≼ mostBytes) (r .length) 0 (λ _. omega arith) (λ _. omega arith)
+    choose-case (λ k. k + behind (r .left) ≤ r .length + behind (r .left)) (r .length ≼ mostBytes) (r .length) 0
+    (λ _. omega arith) (λ _. omega arith)
 asked-at r n Line some a = absurd (some refl)
 asked-at r n Last some a = absurd (some refl)
 asked-at r n Nothing some a = absurd (some refl)
@@ -82,7 +84,8 @@ module _ (r : Report) (n : ℕ) (a : Ahead r n) where
   fewer-ahead m few = fewer-at (r .left) (r .length) (r .stop) n m few (r .stage) a
 
   pub asked-ahead : (m : ℕ) → (asks r ≡ 0 → ⊥) → m ≤ asks r + behind (r .left) → Ahead r m
-  asked-ahead m some few = fewer-at (r .left) (r .length) (r .stop) (asks r + behind (r .left)) m few (r .stage) (asked-at r n (r .stage) some a)
+  asked-ahead m some few =
+      fewer-at (r .left) (r .length) (r .stop) (asks r + behind (r .left)) m few (r .stage) (asked-at r n (r .stage) some a)
 
 going-ahead : (left : ℕ) (pending : Pending) (tally : Tally) (n : ℕ) → n ≤ 3 * left → Ahead (going left pending tally) n
 unfolding going entryOrLine aheadAt
@@ -94,7 +97,8 @@ module _ (r : Report) (n : ℕ) where
   abbrev At : ℕ → Stage → Type 0
   At m stage = aheadAt (r .left) (r .length) (r .stop) m stage
 
-  byte-ahead : (stage : Stage) (bytes : List ℕ) → At (length bytes + n) stage → ((v : ℕ) → At (1 + n) stage → Ahead (valued r stage v) n)
+  byte-ahead : (stage : Stage) (bytes : List ℕ) → At (length bytes + n) stage
+      → ((v : ℕ) → At (1 + n) stage → Ahead (valued r stage v) n)
       → Ahead (byte r stage bytes) n
   unfolding byte numbered aheadAt
   byte-ahead stage [] a next = λ s. omega arith
@@ -114,7 +118,8 @@ module _ (r : Report) (n : ℕ) where
     taken-ahead Nobody few = going-ahead (r .left - 1) _ _ n few
     taken-ahead (Somebody p) few =
         choose-case (λ (d : Did). Ahead (d .report) n) _ _ _
-        (λ _. choose-case (λ (d : Did). Ahead (d .report) n) _ _ _ (λ _. going-ahead (r .left - 1) _ _ n few) (λ _. going-ahead (r .left - 1) _ _ n few))
+        (λ _. choose-case (λ (d : Did). Ahead (d .report) n) _ _ _ (λ _. going-ahead (r .left - 1) _ _ n few)
+        (λ _. going-ahead (r .left - 1) _ _ n few))
         (λ _ e. omega arith)
 
     closed-ahead : (pending : Pending) → (r .stop ≡ 0 → n ≡ 0) → Ahead (closed room r s pending .report) n

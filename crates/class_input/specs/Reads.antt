@@ -26,7 +26,8 @@ part-split l from mid to h k =
     let there : from + (mid - from) ≡ mid = omega arith in
     ap (λ (n : ℕ). take n (drop from l)) sum
     ∙ take-add (mid - from) (to - mid) (drop from l)
-    ∙ ap (λ (rest : List ℕ). part l from mid ++ take (to - mid) rest) (drop-drop (mid - from) from l ∙ ap (λ (n : ℕ). drop n l) there)
+    ∙ ap (λ (rest : List ℕ). part l from mid ++ take (to - mid) rest)
+    (drop-drop (mid - from) from l ∙ ap (λ (n : ℕ). drop n l) there)
 
 pub part-length : (l : List ℕ) (from to : ℕ) → to ≤ length l → length (part l from to) ≡ to - from
 part-length l from to h = length-take-le (to - from) (drop from l) (rw (length-drop from l) (omega arith))
@@ -35,7 +36,8 @@ part-none : (l : List ℕ) (from to : ℕ) → to ≤ from → part l from to �
 part-none l from to h = let e : to - from ≡ 0 = omega arith in rw e refl
 
 take-drop : (l : List ℕ) (from n : ℕ) → from ≤ length l → take n (drop from l) ≡ drop from (take (from + n) l)
-take-drop l from n h = sym (ap (drop from) (take-add from n l) ∙ drop-at (take from l) (take n (drop from l)) from (length-take-le from l h))
+take-drop l from n h =
+    sym (ap (drop from) (take-add from n l) ∙ drop-at (take from l) (take n (drop from l)) from (length-take-le from l h))
 
 pub least-both : (a b : ℕ) → (least a b ≤ a) × (least a b ≤ b)
 least-both a b = choose-case (λ (m : ℕ). (m ≤ a) × (m ≤ b)) (a ≼ b) a b (λ h. (omega arith, h)) (λ h. (omega arith, omega arith))
@@ -65,7 +67,8 @@ pub apart-same : (room room′ : List ℕ) (place n : ℕ) → room′ ≡ room 
 apart-same room room′ place n e = record { long = ap length e; front = ap (take place) e; back = ap (drop (place + n)) e }
 
 -- what a read leaves as it is, of a part of the memory
-pub apart-read : (room bytes : List ℕ) (from to : ℕ) → from ≤ to → to ≤ length room → length bytes ≡ length (midOf from (to - from) room)
+pub apart-read : (room bytes : List ℕ) (from to : ℕ) → from ≤ to → to ≤ length room
+    → length bytes ≡ length (midOf from (to - from) room)
     → Apart room (putMid from (to - from) room bytes) from (to - from)
 apart-read room bytes from to h k same =
     let there : from + (to - from) ≡ to = omega arith in
@@ -77,7 +80,8 @@ apart-read room bytes from to h k same =
     }
 
 -- nothing is asked for
-pub given-none : (r : Report) (w : Window) (place : ℕ) (input room : List ℕ) → asks r ≡ 0 → length room ≡ 65536 → place ≡ freeHalf (r .pending) → Inside w input
+pub given-none : (r : Report) (w : Window) (place : ℕ) (input room : List ℕ) → asks r ≡ 0 → length room ≡ 65536
+    → place ≡ freeHalf (r .pending) → Inside w input
     → Ahead r (sizeOf w) → Given r w place input input room room (record { end = place; window = w })
 given-none r w place input room nothing long is i ahead =
     let none : part room place place ≡ [] = part-none room place place (omega arith) in
@@ -94,10 +98,12 @@ given-none r w place input room nothing long is i ahead =
       stays = refl;
     }
 
--- What a report asks for, handed: first of the window as it is then, into the free half, and the rest, if it was used up, from a read.
+-- What a report asks for, handed: first of the window as it is then,
+-- into the free half, and the rest, if it was used up, from a read.
 module _ (r : Report) (w full : Window) (place n k last : ℕ) (input input′ room room′ : List ℕ)
     (asked : n ≡ asks r) (some : n ≡ 0 → ⊥) (most : n ≤ mostBytes) (long : length room ≡ 65536) (half : InHalf (r .pending))
-    (is : place ≡ freeHalf (r .pending)) (ahead : Ahead r (sizeOf w)) (f : Filled w (r .left) input input′ full) (told : k ≡ least n (sizeOf full))
+    (is : place ≡ freeHalf (r .pending)) (ahead : Ahead r (sizeOf w)) (f : Filled w (r .left) input input′ full) (told : k
+    ≡ least n (sizeOf full))
     (rest : Apart (splice room place (part input′ (full .from) (full .from + k))) room′ (place + k) (place + n - (place + k)))
     (from : place + k ≤ last) (to : last ≤ place + n) (either : (last ≡ place + k) ⊎ (k ≡ n → ⊥)) where
   abbrev bytes : List ℕ
@@ -133,7 +139,8 @@ module _ (r : Report) (w full : Window) (place n k last : ℕ) (input input′ r
             ∙ splice-before room place bytes held;
         back =
             (rw there at (rest .back))
-            ∙ rw (sym sum) (sym (drop-drop (n - k) (place + k) room₁) ∙ ap (drop (n - k)) behind ∙ drop-drop (n - k) (place + k) room);
+            ∙ rw (sym sum)
+            (sym (drop-drop (n - k) (place + k) room₁) ∙ ap (drop (n - k)) behind ∙ drop-drop (n - k) (place + k) room);
       }
 
   -- what was handed of the window
@@ -149,7 +156,8 @@ module _ (r : Report) (w full : Window) (place n k last : ℕ) (input input′ r
 
   -- the window, taken apart
   window-parts : bytes ++ part input′ (full .from + k) (full .to) ≡ bytesOf full input′
-  window-parts = sym (part-split input′ (full .from) (full .from + k) (full .to) (omega arith) (omega (arith, fits .1, f .inside .0)))
+  window-parts =
+      sym (part-split input′ (full .from) (full .from + k) (full .to) (omega arith) (omega (arith, fits .1, f .inside .0)))
 
   -- all that were asked for came from the window, or it is used up
   used : (k ≡ n) ⊎ (k ≡ sizeOf full)
@@ -181,7 +189,8 @@ module _ (r : Report) (w full : Window) (place n k last : ℕ) (input input′ r
   order : (c : Ended) → part room′ place last ++ part input′ (full .from + k) (full .to) ≡ bytesOf w input ++ came c
   unfolding came
   order (inl e) =
-      ap (λ (l : List ℕ). l ++ part input′ (full .from + k) (full .to)) (ap (part room′ place) e ∙ handed) ∙ window-parts ∙ f .order
+      ap (λ (l : List ℕ). l ++ part input′ (full .from + k) (full .to)) (ap (part room′ place) e ∙ handed) ∙ window-parts
+      ∙ f .order
   order (inr e) =
       let none : part input′ (full .from + k) (full .to) ≡ [] = part-none input′ (full .from + k) (full .to) (omega arith) in
       let whole : bytes ≡ bytesOf full input′ = sym (append-nil bytes) ∙ (rw none at window-parts) in
@@ -194,12 +203,14 @@ module _ (r : Report) (w full : Window) (place n k last : ℕ) (input input′ r
   few : Ended → Ahead r (last - place + (full .to - (full .from + k)))
   few (inl e) = go (f .few)
     where
-      go : (sizeOf full ≡ sizeOf w) ⊎ (sizeOf full ≤ 1 + behind (r .left)) → Ahead r (last - place + (full .to - (full .from + k)))
+      go : (sizeOf full ≡ sizeOf w) ⊎ (sizeOf full ≤ 1 + behind (r .left))
+          → Ahead r (last - place + (full .to - (full .from + k)))
       go (inl same) = fewer-ahead r (sizeOf w) ahead _ (omega (arith, fits .1))
       go (inr new) = asked-ahead r (sizeOf w) ahead _ (λ z. some (asked ∙ z)) (omega (arith, fits .1))
   few (inr e) = asked-ahead r (sizeOf w) ahead _ (λ z. some (asked ∙ z)) (omega (arith, fits .1))
 
-  pub given-read : Given r w place input input′ room room′ (record { end = last; window = record { from = full .from + k; to = full .to } })
+  pub given-read : Given r w place input input′ room room′
+      (record { end = last; window = record { from = full .from + k; to = full .to } })
   given-read =
       record {
         long = apart .long;

@@ -31,8 +31,9 @@ pub record Filled (w : Window) (left : ℕ) (input input′ : List ℕ) (w′ : 
   pub order : bytesOf w′ input′ ≡ bytesOf w input ++ came
   pub few : (sizeOf w′ ≡ sizeOf w) ⊎ (sizeOf w′ ≤ 1 + behind left)
 
--- As many bytes as are asked for are handed, or all that are there. They and those still to be handed are those that were there and,
--- behind them, those that came: none is left out, and none comes twice. No more have been read than may be. The pending sheet stays.
+-- As many bytes as are asked for are handed, or all that are there. They and those still
+-- to be handed are those that were there and, behind them, those that came: none is left
+-- out, and none comes twice. No more have been read than may be. The pending sheet stays.
 pub record Given (r : Report) (w : Window) (place : ℕ) (input input′ room room′ : List ℕ) (h : Handed) : Type 0 where
   pub long : length room′ ≡ length room
   pub from : place ≤ h .end

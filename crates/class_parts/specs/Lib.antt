@@ -1,2 +1,2 @@
 pub mod Passing
-pub mod Parts
+pub mod ReportParts

@@ -1,4 +1,5 @@
--- Entries whose numbers are read at once, and further turns of the learner whose sheet is pending: the steps over them are passed.
+-- Entries whose numbers are read at once, and further turns of the
+-- learner whose sheet is pending: the steps over them are passed.
 use Prim.Native.Nat.{ℕ, zero, suc, _+_, _-_, _≤_, _<_}
 use mathlib.Core.List.{List, [], _∷_, _++_, append-nil}
 use mathlib.Core.Bool.{true, false}
@@ -30,14 +31,16 @@ use Rattle.class.specs.declared.Pending.{Pending}
 use Rattle.class.specs.declared.Pending.the-variants.{Nobody, Somebody}
 use Rattle.class.specs.declared.Stage.{Stage}
 use Rattle.class.specs.declared.Stage.the-variants.{Learner, Turn, Length, Sheet}
-use Rattle.class.specs.Steps.{entryOrLine, entry-next, going, entryTo, valued, numbered, byte, fedTo, Did, did, superseded, after, taken, sheetTaken, asksAt, doesAt, does, handed}
+use Rattle.class.specs.Steps.{entryOrLine, entry-next, going, entryTo, valued, numbered, byte, fedTo, Did, did, superseded, after}
+use Rattle.class.specs.Steps.{taken, sheetTaken, asksAt, doesAt, does, handed}
 use Rattle.class.specs.Chains.{State, state, onward, stepOf, Went, further, stepsLeft, no-more, sheet-fewer}
 
--- The numbers of the entry at a place, from its length on, from its turn on and from its learner on: the sheet as it was turned in,
--- if they can be read.
+-- The numbers of the entry at a place, from its length on, from its turn on
+-- and from its learner on: the sheet as it was turned in, if they can be read.
 unfoldable pub lengthAt : List ℕ → ℕ → ℕ → ℕ → Header
 lengthAt file learner turn at =
-    met (readAt limit32 file at) (λ _. Other) (λ size next. Numbers (record { learner = learner; turn = turn; place = next; length = size }))
+    met (readAt limit32 file at) (λ _. Other)
+    (λ size next. Numbers (record { learner = learner; turn = turn; place = next; length = size }))
 
 unfoldable pub turnAt : List ℕ → ℕ → ℕ → Header
 turnAt file learner at = met (readAt limit32 file at) (λ _. Other) (lengthAt file learner)
@@ -48,21 +51,25 @@ headerAt file at = met (readAt limit32 file at) (λ _. Other) (turnAt file)
 module _ (file : List ℕ) where
   -- Steps that print nothing lead from one place and report to others.
   unfoldable pub Leads : ℕ → Report → ℕ → Report → Type 0
-  Leads at r next q = (x : State) (bytes : List ℕ) (s : Session) → Went file x bytes (state at r s) → Went file x bytes (state next q s)
+  Leads at r next q =
+      (x : State) (bytes : List ℕ) (s : Session) → Went file x bytes (state at r s) → Went file x bytes (state next q s)
 
   leads-on : (at b c : ℕ) (r p q : Report) → Leads at r b p → Leads b p c q → Leads at r c q
   unfolding Leads
   leads-on at b c r p q f g x bytes s w = g x bytes s (f x bytes s w)
 
   -- one step
-  step-leads : (at : ℕ) (r : Report) (bytes : List ℕ) (q : Report) → handed file at r ≡ bytes → ((s : Session) → does file at bytes r s ≡ did q [] s)
+  step-leads : (at : ℕ) (r : Report) (bytes : List ℕ) (q : Report) → handed file at r ≡ bytes
+      → ((s : Session) → does file at bytes r s ≡ did q [] s)
       → Leads at r (at + length bytes) q
   unfolding Leads
   step-leads at r bytes q h d x text s w =
       let is : stepOf file at r s ≡ did q [] s = ap (λ (l : List ℕ). does file at l r s) h ∙ d s in
-      let there : onward file (state at r s) ≡ state (at + length bytes) q s = λ i. state (at + length (h i)) (is i .report) (is i .session) in
+      let there : onward file (state at r s) ≡ state (at + length bytes) q s =
+      λ i. state (at + length (h i)) (is i .report) (is i .session) in
       subst (Went file x text) there
-      (subst (λ (l : List ℕ). Went file x l (onward file (state at r s))) (ap (λ (y : Did). text ++ y .text) is ∙ append-nil text) (further text (state at r s) w))
+      (subst (λ (l : List ℕ). Went file x l (onward file (state at r s))) (ap (λ (y : Did). text ++ y .text) is ∙ append-nil text)
+      (further text (state at r s) w))
 
   -- A stage in which a byte of a number is taken, and what a number that was begun before is worth.
   record Takes (stage : Stage) : Type 0 where
@@ -83,14 +90,16 @@ module _ (file : List ℕ) where
   length-takes = record { one = λ r. refl; takes = λ at bytes r s. refl; same = λ r next v. refl }
 
   -- A number that can be read leads to what comes behind it.
-  feeds-leads : (stage : Stage) → Takes stage → (rest : List ℕ) (at : ℕ) (r : Report) (reader : Reader) (v n : ℕ) → drop at file ≡ rest
+  feeds-leads : (stage : Stage) → Takes stage → (rest : List ℕ) (at : ℕ) (r : Report) (reader : Reader) (v n : ℕ)
+      → drop at file ≡ rest
       → feeds limit32 reader rest at ≡ Value v n → Leads at (fedTo r stage reader) n (valued r stage v)
   unfolding feeds byte numbered
   feeds-leads stage t [] at r reader v n d e = absurd (unread e)
     where
       unread : CutShort ≡ Value v n → ⊥
       unread e = let z : _≡_ {A = ℕ} 0 1 = cc in omega arith
-  feeds-leads stage t (b ∷ bs) at r reader v n d e = go (fed limit32 reader b) refl e (λ next. feeds-leads stage t bs (at + 1) r next v n next-bytes)
+  feeds-leads stage t (b ∷ bs) at r reader v n d e =
+      go (fed limit32 reader b) refl e (λ next. feeds-leads stage t bs (at + 1) r next v n next-bytes)
     where
       next-bytes : drop (at + 1) file ≡ bs
       next-bytes = sym (drop-drop 1 at file) ∙ ap (drop 1) d
@@ -105,10 +114,14 @@ module _ (file : List ℕ) where
       first q is = step-leads at there (b ∷ []) q one (λ s. t .takes at (b ∷ []) there s ∙ ap (λ (p : Report). did p [] s) is)
 
       go : (f : Fed) → fed limit32 reader b ≡ f
-          → elim f [ More next ↦ feeds limit32 next bs (at + 1) | Whole w ↦ Value w (at + 1) | Bad ↦ BadNumber (at + 1) ] ≡ Value v n
-          → ((next : Reader) → feeds limit32 next bs (at + 1) ≡ Value v n → Leads (at + 1) (fedTo r stage next) n (valued r stage v))
+          → elim f [ More next ↦ feeds limit32 next bs (at + 1) | Whole w ↦ Value w (at + 1) | Bad ↦ BadNumber (at + 1) ]
+          ≡ Value v n
+          → ((next : Reader) → feeds limit32 next bs (at + 1) ≡ Value v n
+          → Leads (at + 1) (fedTo r stage next) n (valued r stage v))
           → Leads at there n (valued r stage v)
-      go (More next) f e ih = leads-on at (at + 1) n there (fedTo r stage next) (valued r stage v) (first (fedTo r stage next) (rw f refl)) (ih next e)
+      go (More next) f e ih =
+          leads-on at (at + 1) n there (fedTo r stage next) (valued r stage v) (first (fedTo r stage next) (rw f refl))
+          (ih next e)
       go (Whole w) f e ih =
           let value : w ≡ v = cc in
           let place : at + 1 ≡ n = cc in
@@ -120,7 +133,8 @@ module _ (file : List ℕ) where
           bad e = let z : _≡_ {A = ℕ} 0 1 = cc in omega arith
 
   -- a number that stands at a place
-  number-leads : (stage : Stage) → Takes stage → (at : ℕ) (r : Report) (v n : ℕ) → readAt limit32 file at ≡ Value v n → Leads at (fedTo r stage start) n (valued r stage v)
+  number-leads : (stage : Stage) → Takes stage → (at : ℕ) (r : Report) (v n : ℕ) → readAt limit32 file at ≡ Value v n
+      → Leads at (fedTo r stage start) n (valued r stage v)
   number-leads stage t at r v n e = feeds-leads stage t (drop at file) at r start v n refl (feeds-reads limit32 file at ∙ e)
 
   -- Numbers that can be read lead to the entry's sheet.
@@ -130,9 +144,12 @@ module _ (file : List ℕ) where
 
     unfoldable pub Heads : Header → Type 0
     Heads Other = Unit {0}
-    Heads (Numbers e) = Leads at from (e .place) (entryTo from Sheet (e .learner) (e .turn) (e .length)) × (at < e .place) × (e .place ≤ length file)
+    Heads (Numbers e) =
+        Leads at from (e .place) (entryTo from Sheet (e .learner) (e .turn) (e .length)) × (at < e .place)
+        × (e .place ≤ length file)
 
-    length-heads : (learner turn b : ℕ) → at ≤ b → Leads at from b (entryTo from Length learner turn 0) → Heads (lengthAt file learner turn b)
+    length-heads : (learner turn b : ℕ) → at ≤ b → Leads at from b (entryTo from Length learner turn 0)
+        → Heads (lengthAt file learner turn b)
     unfolding Heads lengthAt met valued
     length-heads learner turn b up w = go (readAt limit32 file b) refl
       where
@@ -140,10 +157,16 @@ module _ (file : List ℕ) where
         here = entryTo from Length learner turn 0
 
         go : (r : Reading) → readAt limit32 file b ≡ r
-            → Heads (met r (λ _. Other) (λ size next. Numbers (record { learner = learner; turn = turn; place = next; length = size })))
+            → Heads
+            (met r (λ _. Other)
+            (λ size next. Numbers (record { learner = learner; turn = turn; place = next; length = size })))
         go (Value size c) e =
-            let n = value-next limit32 file b size c e in
-            (leads-on at b c from here (entryTo from Sheet learner turn size) w (number-leads Length length-takes b here size c e), omega (arith, n .1), n .2)
+            let n = value-next limit32 file b size c e in (
+              leads-on at b c from here (entryTo from Sheet learner turn size) w
+                  (number-leads Length length-takes b here size c e),
+              omega (arith, n .1),
+              n .2,
+            )
         go (BadNumber n) e = tt
         go CutShort e = tt
 
@@ -185,10 +208,16 @@ module _ (file : List ℕ) where
       let bytes = sheetAt file at size in
       let next = going l (Somebody (superseded file p e)) t in
       let n : length bytes ≡ size = length-take-le size (drop at file) (h .1) in
-      let handed-is : handed file at r ≡ bytes = ap (λ (k : ℕ). take k (drop at file)) (choose-yes (size ≼ mostBytes) size 0 (h .0)) in
+      let handed-is : handed file at r ≡ bytes =
+      ap (λ (k : ℕ). take k (drop at file)) (choose-yes (size ≼ mostBytes) size 0 (h .0)) in
       let one : suc l - 1 ≡ l = omega arith in
       let does-is : (s : Session) → does file at bytes r s ≡ did next [] s = λ s.
-      rw (passes (fits bytes 0 size) (h .0, omega arith), passes (p .learner ≼ e .learner) (omega arith), passes (p .learner ≐ e .learner) (sym same), one) refl in
+      rw (
+        passes (fits bytes 0 size) (h .0, omega arith),
+        passes (p .learner ≼ e .learner) (omega arith),
+        passes (p .learner ≐ e .learner) (sym same),
+        one,
+      ) refl in
       subst (λ (k : ℕ). Leads at r (at + k) next) n (step-leads at r bytes next handed-is does-is)
 
   -- Steps that were passed over at once: they print nothing, and fewer are left.
@@ -209,7 +238,8 @@ module _ (file : List ℕ) where
   }
 
   -- One turn more.
-  pub passed-more : (at : ℕ) (r : Report) (next more : ℕ) (p e : Turned) (t : Tally) → 1 < more → Passed at r next (going more (Somebody p) t)
+  pub passed-more : (at : ℕ) (r : Report) (next more : ℕ) (p e : Turned) (t : Tally) → 1 < more
+      → Passed at r next (going more (Somebody p) t)
       → headerAt file next ≡ Numbers e → e .learner ≡ p .learner → holds (fits file (e .place) (e .length))
       → Passed at r (e .place + e .length) (going (more - 1) (Somebody (superseded file p e)) t)
   unfolding Heads going entryOrLine
@@ -235,8 +265,10 @@ module _ (file : List ℕ) where
   header-inside at e is = subst (Heads at 0 Nobody noCounts) is (heads at 0 Nobody noCounts) .2
 
   -- The numbers of an entry.
-  pub passed-numbers : (at : ℕ) (r : Report) (next left : ℕ) (q : Pending) (t : Tally) (e : Turned) → 1 ≤ left → Passed at r next (going left q t)
-      → headerAt file next ≡ Numbers e → Passed at r (e .place) (entryTo (going left q t) Sheet (e .learner) (e .turn) (e .length))
+  pub passed-numbers : (at : ℕ) (r : Report) (next left : ℕ) (q : Pending) (t : Tally) (e : Turned) → 1 ≤ left
+      → Passed at r next (going left q t)
+      → headerAt file next ≡ Numbers e
+      → Passed at r (e .place) (entryTo (going left q t) Sheet (e .learner) (e .turn) (e .length))
   unfolding Heads going entryOrLine
   passed-numbers at r next zero q t e h w is = absurd (omega arith)
   passed-numbers at r next (suc l) q t e h w is =

@@ -11,7 +11,7 @@ ghost use Rattle.session.specs.Table.{read, words};
 ghost use Rattle.session.specs.Fresh.{freshSession};
 ghost use Rattle.rules.specs.Formula.{holds, test};
 ghost use Rattle.rules.specs.Sound.{kept};
-ghost use Rattle.class_parts.specs.Parts.{lends, SteppedOn, Reported, Parted};
+ghost use Rattle.class_parts.specs.ReportParts.{lends, SteppedOn, Reported, Parted};
 
 // A step on a file in memory, with its line behind the lines already there.
 fn step_on(
@@ -89,7 +89,7 @@ fn is_lent(memory: &[u64], lines: &[u8]) -> bool
     if lines.len() < ROOM {
         return false;
     }
-    if memory.len() < session::names::WORDS {
+    if memory.len() < session::WORDS {
         return false;
     }
     true

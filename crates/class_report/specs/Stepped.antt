@@ -19,12 +19,15 @@ abbrev pub stepOn : List ℕ → ℕ → ℕ → Report → List ℕ → Did
 stepOn room place end r memory = does room place (part room place end) r (read memory)
 
 -- A step leaves the pending sheet in a half, and no more read than may lie there then.
-module _ (room : List ℕ) (place end : ℕ) (r next : Report) (memory : List ℕ) (e : next ≡ stepOn room place end r memory .report) where
+module _ (room : List ℕ) (place end : ℕ) (r next : Report) (memory : List ℕ)
+    (e : next ≡ stepOn room place end r memory .report) where
   pub step-half : length room ≡ 65536 → place ≡ freeHalf (r .pending) → InHalf (r .pending) → InHalf (next .pending)
   step-half long is h =
       let half = subst (λ (n : ℕ). (n ≡ 0) ⊎ (n ≡ mostBytes)) (sym is) (free-half (r .pending)) in
-      subst (λ (x : Report). InHalf (x .pending)) (sym e) (does-half room place (part room place end) r (read memory) (omega arith) half h)
+      subst (λ (x : Report). InHalf (x .pending)) (sym e)
+      (does-half room place (part room place end) r (read memory) (omega arith) half h)
 
   pub stepped-ahead : (n : ℕ) → end ≤ length room → Ahead r (end - place + n) → Ahead next n
   stepped-ahead n inside a =
-      subst (λ (x : Report). Ahead x n) (sym e) (step-ahead r n room place (part room place end) (read memory) (rw (part-length room place end inside) a))
+      subst (λ (x : Report). Ahead x n) (sym e)
+      (step-ahead r n room place (part room place end) (read memory) (rw (part-length room place end inside) a))

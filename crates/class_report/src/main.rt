@@ -55,7 +55,7 @@ fn write_full(lines: &[u8], used: usize) -> usize
 }
 
 fn main() {
-    let mut memory = [0u64; session::names::WORDS];
+    let mut memory = [0u64; session::WORDS];
     session::write_fresh(&mut memory);
     let mut room = [0u8; class::TWO_SHEETS];
     let mut input = [0u8; class_input::INPUT];

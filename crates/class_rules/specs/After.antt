@@ -8,12 +8,13 @@ use lib.Seq.{take-append-le, drop-append-le}
 use Rattle.number.specs.Number.{limit32, more, first, readAt}
 use Rattle.number.specs.Encode.{Groups, one, several, groups}
 use Rattle.number.specs.Decode.{more-last, more-on}
-use Rattle.number.specs.Cases.{At, good, reading-as, judged-value, read-ends}
+use Rattle.number.specs.NumberCases.{At, good, reading-as, judged-value, read-ends}
 use Rattle.number.specs.Laws.{value-next}
 use Rattle.number.specs.declared.Reading.the-variants.{Value}
 use Rattle.rules.specs.Formula.{Formula, holds, choose, Formula._≼_}
 use Rattle.rules.specs.FormulaLaws.{choose-yes, choose-case}
-use Rattle.class_rules.specs.Report.{Class, stopped, followed, met, fits, sheetAt, entriesAt, classOf, counted, head, entryLines, totals, lastLine, report}
+use Rattle.class_rules.specs.Report.{Class, stopped, followed, met, fits, sheetAt, entriesAt, classOf, counted, head}
+use Rattle.class_rules.specs.Report.{entryLines, totals, lastLine, report}
 use Rattle.class_rules.specs.Entries.{met-case}
 
 -- a number that ends in some bytes ends there whatever follows
@@ -34,7 +35,8 @@ choose-behind f f′ n c c′ l to same =
 
 module _ (file after : List ℕ) where
   -- and is read as it is without that
-  read-behind : (at v next : ℕ) → at ≤ length file → readAt limit32 file at ≡ Value v next → readAt limit32 (file ++ after) at ≡ Value v next
+  read-behind : (at v next : ℕ) → at ≤ length file → readAt limit32 file at ≡ Value v next
+      → readAt limit32 (file ++ after) at ≡ Value v next
   read-behind at v next inside e = go v next (reading-as limit32 file at (Value v next) e)
     where
       d : drop at (file ++ after) ≡ drop at file ++ after
@@ -49,7 +51,8 @@ module _ (file after : List ℕ) where
 
   -- a number that does not stop, and what follows it
   met-behind : (a : ℕ) (g g′ : ℕ → ℕ → Class) → a ≤ length file → ((v n : ℕ) → n ≤ length file → g v n .stop ≡ 0 → g′ v n ≡ g v n)
-      → met (readAt limit32 file a) stopped g .stop ≡ 0 → met (readAt limit32 (file ++ after) a) stopped g′ ≡ met (readAt limit32 file a) stopped g
+      → met (readAt limit32 file a) stopped g .stop ≡ 0
+      → met (readAt limit32 (file ++ after) a) stopped g′ ≡ met (readAt limit32 file a) stopped g
   unfolding met
   met-behind a g g′ inside same =
       met-case (λ c. c .stop ≡ 0 → met (readAt limit32 (file ++ after) a) stopped g′ ≡ c) (readAt limit32 file a) g
@@ -67,11 +70,17 @@ module _ (file after : List ℕ) where
       met-behind b _ _ in-b (λ size c in-c.
       let d : drop c (file ++ after) ≡ drop c file ++ after = drop-append-le c file after in-c in
       let all : List ℕ → Class = λ bytes.
-      followed (record { learner = learner; turn = turn; sheet = sheetAt bytes c size }) (entriesAt bytes left (c + size) learner) in
+      followed (record { learner = learner; turn = turn; sheet = sheetAt bytes c size })
+      (entriesAt bytes left (c + size) learner) in
       choose-behind (fits file c size) (fits (file ++ after) c size) 22 _ _ (omega arith)
       (λ h. (h .0, omega (arith, h .1, ap length d, length-append (drop c file) after)))
       (λ h. choose-behind (before ≼ learner) (before ≼ learner) 23 (all file) (all (file ++ after)) (omega arith) (λ up. up)
-      (λ _ z. rw (d, take-append-le size (drop c file) after (h .1), entries-behind left (c + size) learner (omega (arith, h .1, length-drop c file)) z))))))
+      (λ _ z.
+      rw (
+        d,
+        take-append-le size (drop c file) after (h .1),
+        entries-behind left (c + size) learner (omega (arith, h .1, length-drop c file)) z,
+      ))))))
 
   -- The theorem: where the report does not stop, bytes after the last sheet change nothing.
   pub not-read : classOf file .stop ≡ 0 → report (file ++ after) ≡ report file

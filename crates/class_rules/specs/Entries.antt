@@ -13,7 +13,8 @@ use Rattle.rules.specs.FormulaLaws.{choose-case}
 use Rattle.class_rules.specs.Report.{Entry, Class, stopped, mostBytes, met, fits, entriesAt, classOf}
 
 -- what holds at both stops and of what follows a number holds of what is met
-pub met-case : (P : Class → Type 0) (r : Reading) (g : ℕ → ℕ → Class) → P (stopped 3) → P (stopped 4) → ((v n : ℕ) → r ≡ Value v n → P (g v n))
+pub met-case : (P : Class → Type 0) (r : Reading) (g : ℕ → ℕ → Class) → P (stopped 3) → P (stopped 4)
+    → ((v n : ℕ) → r ≡ Value v n → P (g v n))
     → P (met r stopped g)
 unfolding met
 met-case P (Value v n) g three four so = so v n refl

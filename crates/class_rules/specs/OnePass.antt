@@ -4,7 +4,8 @@ use mathlib.Core.List.{List, [], _∷_, _++_}
 use mathlib.Core.Path.{_≡_, refl, ap, sym}
 use native.Mathlib.Omega.{arith}
 use Rattle.rules.specs.Formula.{Formula, holds, not, test, choose, Formula._≐_, Formula._≼_, Formula._then_, Formula.never}
-use Rattle.rules.specs.FormulaLaws.{Case, decide, passes, fails, test-and, choose-yes, choose-case, Case.it-does, Case.it-does-not}
+use Rattle.rules.specs.FormulaLaws.{Case, decide, passes, fails, test-and, choose-yes, choose-case, Case.it-does}
+use Rattle.rules.specs.FormulaLaws.{Case.it-does-not}
 use Rattle.class_rules.specs.Report.{Entry, classOf, allIn, isCounted, countedIn, counted}
 use Rattle.class_rules.specs.Entries.{InOrder, read-class}
 
@@ -52,7 +53,8 @@ record Pending (seen : List Entry) (p : Entry) : Type 0 where
   highest : (d : Entry) → p .learner ≤ d .learner → (p .learner ≡ d .learner → p .turn ≤ d .turn) → holds (noneHigher seen d)
 
 -- an entry that supersedes it, or of another learner, is pending
-pending-next : (seen : List Entry) (p e : Entry) → Pending seen p → p .learner ≤ e .learner → (p .learner ≡ e .learner → p .turn ≤ e .turn)
+pending-next : (seen : List Entry) (p e : Entry) → Pending seen p → p .learner ≤ e .learner
+    → (p .learner ≡ e .learner → p .turn ≤ e .turn)
     → Pending (e ∷ seen) e
 unfolding allIn
 pending-next seen p e w up over = record {
@@ -61,7 +63,8 @@ pending-next seen p e w up over = record {
 }
 
 -- else it stays pending
-pending-stays : (seen : List Entry) (p e : Entry) → Pending seen p → p .learner ≡ e .learner → e .turn ≤ p .turn → Pending (e ∷ seen) p
+pending-stays : (seen : List Entry) (p e : Entry) → Pending seen p → p .learner ≡ e .learner → e .turn ≤ p .turn
+    → Pending (e ∷ seen) p
 unfolding allIn
 pending-stays seen p e w same low = record {
   is-seen = λ d h. w .is-seen d (h .1);
@@ -82,7 +85,8 @@ PassFrom seen p rest = onePass (p ∷ []) rest ≡ choose (noneAsHigh p rest) (p
 pass : (seen : List Entry) (p : Entry) (rest : List Entry) → InOrder (p .learner) rest → Pending seen p → PassFrom seen p rest
 unfolding allIn isCounted countedIn onePass printed kept superseding
 pass seen p [] o w = sym (choose-yes (not never) (p ∷ []) [] (λ x. x))
-pass seen p (e ∷ more) o w = go (decide (p .learner ≐ e .learner)) (decide (p .turn ≼ e .turn)) (pass (e ∷ seen) e more (o .2)) (pass (e ∷ seen) p more)
+pass seen p (e ∷ more) o w =
+    go (decide (p .learner ≐ e .learner)) (decide (p .turn ≼ e .turn)) (pass (e ∷ seen) e more (o .2)) (pass (e ∷ seen) p more)
   where
     -- the second half decides where the pending one lets the entry count
     counts : (p .learner ≡ e .learner → p .turn ≤ e .turn) → test (isCounted seen e more) ≡ test (noneAsHigh e more)

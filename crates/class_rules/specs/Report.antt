@@ -1,5 +1,5 @@
--- The class report (document 02, E1 and E2): "A class file .. is the number of sheets, then for each a learner number, a turn number,
--- a byte length and the sheet".
+-- The class report (document 02, E1 and E2): "A class file .. is the number of sheets,
+-- then for each a learner number, a turn number, a byte length and the sheet".
 use Prim.Native.Nat.{ℕ, zero, suc, _+_}
 use mathlib.Core.List.{List, [], _∷_, _++_}
 use lib.ListN.{length, take, drop}
@@ -67,8 +67,8 @@ unfoldable pub allIn : (Entry → Formula) → List Entry → Formula
 allIn f [] = not never
 allIn f (e ∷ more) = f e and allIn f more
 
--- E2: "For one learner the sheet with the higher turn counts; of equal turns the later in the file": no entry of the learner before it
--- has a higher turn, and none behind it one as high.
+-- E2: "For one learner the sheet with the higher turn counts; of equal turns the later in the file": no entry of the learner
+-- before it has a higher turn, and none behind it one as high.
 unfoldable pub isCounted : List Entry → Entry → List Entry → Formula
 isCounted before e behind =
     allIn (λ d. d .learner ≐ e .learner then d .turn ≼ e .turn) before
@@ -90,7 +90,8 @@ head = 99 ∷ 108 ∷ 97 ∷ 115 ∷ 115 ∷ 32 ∷ 49 ∷ 10 ∷ []
 
 -- four counts, and the end of a line
 unfoldable pub countsLine : Tally → List ℕ
-countsLine t = marked (t .records) space ++ (marked (t .refused) space ++ (marked (t .starts) space ++ marked (t .dropped) newline))
+countsLine t =
+    marked (t .records) space ++ (marked (t .refused) space ++ (marked (t .starts) space ++ marked (t .dropped) newline))
 
 -- "per sheet learner, turn, records (answer lines), refused records .., starts and dropped"
 unfoldable pub entryLine : ℕ → ℕ → Tally → List ℕ
@@ -106,7 +107,13 @@ stopLine n = 115 ∷ 116 ∷ 111 ∷ 112 ∷ 32 ∷ marked n newline
 
 -- "then a last line with the sums of the last four": the totals over the printed sheets
 abbrev pub plus : Tally → Tally → Tally
-plus t u = record { records = t .records + u .records; refused = t .refused + u .refused; starts = t .starts + u .starts; dropped = t .dropped + u .dropped }
+plus t u =
+    record {
+      records = t .records + u .records;
+      refused = t .refused + u .refused;
+      starts = t .starts + u .starts;
+      dropped = t .dropped + u .dropped;
+    }
 
 unfoldable pub totals : List Entry → Tally
 totals [] = noCounts
@@ -116,6 +123,7 @@ totals (e ∷ more) = plus (countsOf (e .sheet)) (totals more)
 unfoldable pub lastLine : Tally → ℕ → List ℕ
 lastLine t stop = choose (stop ≐ 0) (countsLine t) (stopLine stop)
 
--- E2: "A stop first prints the line of the learner still pending, and no sums": the lines are those of the entries before the stop.
+-- E2: "A stop first prints the line of the learner still pending,
+-- and no sums": the lines are those of the entries before the stop.
 unfoldable pub report : List ℕ → List ℕ
 report file = let c = classOf file in head ++ entryLines (counted c) ++ lastLine (totals (counted c)) (c .stop)

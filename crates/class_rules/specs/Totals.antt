@@ -26,14 +26,17 @@ raised-more t (e ∷ a) b = raised-more (raise t (countsOf (e .sheet))) a b
 pub lines-more : (a b : List Entry) → entryLines (a ++ b) ≡ entryLines a ++ entryLines b
 unfolding entryLines
 lines-more [] b = refl
-lines-more (e ∷ a) b = rw (lines-more a b) (sym (append-assoc (entryLine (e .learner) (e .turn) (countsOf (e .sheet))) (entryLines a) (entryLines b)))
+lines-more (e ∷ a) b =
+    rw (lines-more a b)
+    (sym (append-assoc (entryLine (e .learner) (e .turn) (countsOf (e .sheet))) (entryLines a) (entryLines b)))
 
 -- None of the four counts is above n.
 abbrev Within : ℕ → Tally → Type 0
 Within n t = (t .records ≤ n) × (t .refused ≤ n) × (t .starts ≤ n) × (t .dropped ≤ n)
 
 -- Tallies with the same counts are the same.
-same : (t u : Tally) → (t .records ≡ u .records) × (t .refused ≡ u .refused) × (t .starts ≡ u .starts) × (t .dropped ≡ u .dropped) → t ≡ u
+same : (t u : Tally) → (t .records ≡ u .records) × (t .refused ≡ u .refused) × (t .starts ≡ u .starts) × (t .dropped ≡ u .dropped)
+    → t ≡ u
 same t u e i = record { records = e .0 i; refused = e .1 i; starts = e .2 i; dropped = e .3 i }
 
 -- No count of a sheet in a class is above this.

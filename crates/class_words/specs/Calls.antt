@@ -19,14 +19,15 @@ use Rattle.class.specs.Steps.{begun, asks, asksAt, doesAt, fedTo, isOver, over-
 use Rattle.class.specs.Begun.{begun-report}
 use Rattle.class.specs.Chains.{State, state, Went, still, further, said, onward, stepsLeft, steps-fewer}
 use Rattle.turns.specs.Places.{least}
-use Rattle.class_parts.specs.Parts.{Reported, part-prints}
+use Rattle.class_parts.specs.ReportParts.{Reported, part-prints}
 use Rattle.number.specs.Fed.{start}
 use Rattle.class_parts.specs.declared.Part.{Part}
 use Rattle.class.specs.declared.Report.{Report}
-use Rattle.class_words.specs.Words.{classWords, codeIn, codeOf, stageOf, placeOf, pendingOf, reportOf, code-nothing, lendsWords, Continued, Reports}
+use Rattle.class_words.specs.Words.{classWords, codeIn, codeOf, stageOf, placeOf, pendingOf, reportOf, code-nothing}
+use Rattle.class_words.specs.Words.{lendsWords, Continued, Reports}
 
--- Calls one behind the other until the first word is 7, each on the words that the one before left, with any memory and any lines; a call
--- that is refused may be among them. The bytes are those of their lines.
+-- Calls one behind the other until the first word is 7, each on the words that the one before left, with any memory and any
+-- lines; a call that is refused may be among them. The bytes are those of their lines.
 pub data Chain (file : List ℕ) : List ℕ → List ℕ → Type 0 where
   done : (state : List ℕ) → codeIn state ≡ 7 → Chain file state []
   more : (state state′ before after lines lines′ : List ℕ) (used refused : ℕ) (bytes : List ℕ)
@@ -57,7 +58,8 @@ module _ (file : List ℕ) where
       go : Case (lendsWords state before lines)
           → (placeOf state′ ≤ length file) × (take used lines′ ++ printsFrom file state′ ≡ printsFrom file state)
       go (it-does y) =
-          let z : Continued file state state′ before after lines lines′ used refused = rw (passes (lendsWords state before lines) y) at x in
+          let z : Continued file state state′ before after lines lines′ used refused =
+          rw (passes (lendsWords state before lines) y) at x in
           let r = rw (choose-yes (placeOf state ≼ length file) (placeOf state) (length file) h) at (z .reported) in
           (went-inside _ _ _ (r .went) h, part-prints file _ _ _ _ _ _ _ r)
       go (it-does-not n) =
@@ -79,7 +81,8 @@ module _ (file : List ℕ) where
   unfolding placeOf reportOf pendingOf stageOf reportFrom begun test
   cleared-prints state e =
       let past = drop classWords state in
-      let s : state ≡ replicate classWords 0 ++ past = sym (take-append-drop classWords state) ∙ ap (λ (l : List ℕ). l ++ past) e in
+      let s : state ≡ replicate classWords 0 ++ past =
+      sym (take-append-drop classWords state) ∙ ap (λ (l : List ℕ). l ++ past) e in
       (ap placeOf s, ap (printsFrom file) s ∙ begun-report file)
 
   -- The theorem: from words that are 0 until the first word is 7, the lines of the calls are the report.
@@ -95,7 +98,8 @@ module _ (file : List ℕ) where
   over-same : (at : ℕ) (r : Report) (s : Session) → r .stage ≡ Nothing → leftAt (onward file (state at r s)) ≡ stepsLeft file at r
   unfolding stepsLeft asksAt doesAt
   over-same at r s e =
-      ap (λ (stage : Stage). let bytes = take (asksAt r stage) (drop at file) in stepsLeft file (at + length bytes) (doesAt file at bytes r s stage .report)) e
+      ap (λ (stage : Stage). let bytes = take (asksAt r stage) (drop at file) in
+      stepsLeft file (at + length bytes) (doesAt file at bytes r s stage .report)) e
       ∙ ap (λ (n : ℕ). stepsLeft file n (fedTo r Nothing start)) (add-zero at)
       ∙ ap (λ (stage : Stage). stepsLeft file at (fedTo r stage start)) (sym e)
 
@@ -152,10 +156,12 @@ module _ (file : List ℕ) where
 
       r : Reported file at (reportOf state) before after lines lines′ p
       r =
-          let z : Continued file state state′ before after lines lines′ used refused = rw (passes (lendsWords state before lines) l) at x in
+          let z : Continued file state state′ before after lines lines′ used refused =
+          rw (passes (lendsWords state before lines) l) at x in
           z .reported
 
-      over : (reportOf state′ .stage ≡ Nothing) ⊎ (length lines′ < used + 128) → reportOf state′ ≡ reportOf state → r .text ≡ [] → ⊥
+      over : (reportOf state′ .stage ≡ Nothing) ⊎ (length lines′ < used + 128) → reportOf state′ ≡ reportOf state → r .text ≡ []
+          → ⊥
       over (inl e) same none = n (ap (λ (q : Report). q .stage) (sym same) ∙ e)
       over (inr e) same none = omega (arith, e, r .line .place, ap length none, r .long, l .1 .0)
 
@@ -165,11 +171,13 @@ module _ (file : List ℕ) where
       go (inr e) = absurd (over (r .ends) (ap (λ (y : State). y .report) (e .0)) (e .1))
 
   -- Where nothing is left, whatever the code, it is 7 after the call.
-  went-over : (x : State) (bytes : List ℕ) (y : State) → Went file x bytes y → x .report .stage ≡ Nothing → y .report .stage ≡ Nothing
+  went-over : (x : State) (bytes : List ℕ) (y : State) → Went file x bytes y → x .report .stage ≡ Nothing
+      → y .report .stage ≡ Nothing
   unfolding asksAt doesAt
   went-over x _ _ still e = e
   went-over x _ _ (further bytes y w) e =
-      ap (λ (stage : Stage). doesAt file (y .at) (take (asksAt (y .report) stage) (drop (y .at) file)) (y .report) (y .session) stage .report .stage)
+      ap (λ (stage : Stage). doesAt file (y .at) (take (asksAt (y .report) stage) (drop (y .at) file)) (y .report)
+      (y .session) stage .report .stage)
       (went-over x bytes y w e)
 
   pub call-over : (state state′ before after lines lines′ : List ℕ) (used refused : ℕ)
@@ -179,5 +187,6 @@ module _ (file : List ℕ) where
       → codeIn state′ ≡ 7
   unfolding Reports codeOf
   call-over state state′ before after lines lines′ used refused l e x =
-      let z : Continued file state state′ before after lines lines′ used refused = rw (passes (lendsWords state before lines) l) at x in
+      let z : Continued file state state′ before after lines lines′ used refused =
+      rw (passes (lendsWords state before lines) l) at x in
       z .code ∙ ap codeOf (went-over _ _ _ (z .reported .went) e)

@@ -17,10 +17,10 @@ use Rattle.class.specs.declared.Turned.{Turned}
 use Rattle.class.specs.declared.Pending.{Pending}
 use Rattle.class.specs.declared.Pending.the-variants.{Nobody, Somebody}
 use Rattle.turns.specs.Places.{least}
-use Rattle.class_parts.specs.Parts.{lends, Reported, Parted}
+use Rattle.class_parts.specs.ReportParts.{lends, Reported, Parted}
 
--- What comes next has a code: the head 0, then the number of sheets, a learner, a turn, a length, a sheet and the last line; nothing is
--- left at 7, the line of the pending sheet is 8, and nothing is left at any other.
+-- What comes next has a code: the head 0, then the number of sheets, a learner, a turn, a length, a sheet and the last line;
+-- nothing is left at 7, the line of the pending sheet is 8, and nothing is left at any other.
 abbrev pub stages : List Stage
 stages = Head ∷ Count ∷ Learner ∷ Turn ∷ Length ∷ Sheet ∷ Last ∷ Nothing ∷ Line ∷ []
 
@@ -65,7 +65,8 @@ placeOf w = getD w 1 0
 -- The pending sheet: 0 is nobody.
 unfoldable pub pendingOf : List ℕ → Pending
 pendingOf w =
-    choose (getD w 9 0 ≐ 0) Nobody (Somebody (record { learner = getD w 10 0; turn = getD w 11 0; place = getD w 12 0; length = getD w 13 0 }))
+    choose (getD w 9 0 ≐ 0) Nobody
+    (Somebody (record { learner = getD w 10 0; turn = getD w 11 0; place = getD w 12 0; length = getD w 13 0 }))
 
 unfoldable pub reportOf : List ℕ → Report
 reportOf w = record {
@@ -187,7 +188,8 @@ module _ (file state before lines : List ℕ) where
           go (it-does y) = absurd (n ((rw (passes (lends before lines) y) at x) .refused))
           go (it-does-not y) =
               let z = rw (fails (lends before lines) y) at x in
-              rw (fails (lendsWords state before lines) (λ l. y (l .1))) (refl, z .0, z .1, refl, ap (λ (q : Part). q .refused) (z .2))
+              rw (fails (lendsWords state before lines) (λ l. y (l .1)))
+              (refl, z .0, z .1, refl, ap (λ (q : Part). q .refused) (z .2))
 
       -- a part that was done, and where the next one goes on written into the words
       pub reports-done : p .refused ≡ 0 → (state′ : List ℕ) → state′ ≡ splice state 0 (wordsOf (p .place) (p .report))

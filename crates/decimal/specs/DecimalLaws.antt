@@ -19,7 +19,8 @@ steps-enough zero (suc m) v hn hm = rw (lt-ltb v 10 (omega arith), decimalIn)
 steps-enough (suc n) zero v hn hm = rw (lt-ltb v 10 (omega arith), decimalIn)
 steps-enough (suc n) (suc m) v hn hm = go (ltb v 10) refl (λ l. steps-enough n m (v / 10) (omega arith) (omega arith))
   where
-    go : (b : Bool) → ltb v 10 ≡ b → (10 ≤ v → decimalIn n (v / 10) ≡ decimalIn m (v / 10)) → decimalIn (suc n) v ≡ decimalIn (suc m) v
+    go : (b : Bool) → ltb v 10 ≡ b → (10 ≤ v → decimalIn n (v / 10) ≡ decimalIn m (v / 10))
+        → decimalIn (suc n) v ≡ decimalIn (suc m) v
     go true e r = rw (e, decimalIn)
     go false e r = rw (e, decimalIn, r (ltb-false v 10 e))
 
@@ -31,7 +32,8 @@ decimal-one (suc v) h = rw (lt-ltb (suc v) 10 h, decimalIn)
 pub decimal-several : (v : ℕ) → 10 ≤ v → decimal v ≡ decimal (v / 10) ++ (v % 10 + 48) ∷ []
 unfolding decimal decimalIn
 decimal-several zero h = absurd (omega arith)
-decimal-several (suc v) h = rw (le-ltb (suc v) 10 h, decimalIn, steps-enough v (suc v / 10) (suc v / 10) (omega arith) (omega arith))
+decimal-several (suc v) h =
+    rw (le-ltb (suc v) 10 h, decimalIn, steps-enough v (suc v / 10) (suc v / 10) (omega arith) (omega arith))
 
 pub digits-some : (v : ℕ) → 1 ≤ length (decimal v)
 digits-some v = go (ltb v 10) refl
@@ -47,7 +49,8 @@ unfolding splice
 splice-behind-first out at d bs h =
     let k = at + length bs in
     let tail : drop k (set out k d) ≡ d ∷ drop (suc k) out =
-    ap (λ (l : List ℕ). drop k l) (set-split out k d h) ∙ drop-at (take k out) (d ∷ drop (suc k) out) k (length-take-le k out (omega arith)) in
+    ap (λ (l : List ℕ). drop k l) (set-split out k d h)
+    ∙ drop-at (take k out) (d ∷ drop (suc k) out) k (length-take-le k out (omega arith)) in
     let sum : at + length (bs ++ d ∷ []) ≡ suc k = omega (arith, length-append bs (d ∷ [])) in
     rw (take-set-le at out k d (omega arith), tail, sum) (simp append-assoc)
 

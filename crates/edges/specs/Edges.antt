@@ -4,7 +4,9 @@ use mathlib.Core.Path.{_≡_, ap}
 use Rattle.number.specs.Number.{limit32, readAt, refusalOf}
 use Rattle.number.specs.declared.Reading.the-variants.{Value}
 use Rattle.number.specs.Edges.{P6 as number-edge}
-use Rattle.rules.specs.Edges.{p1, p2, p3, p4, p8, p8-then, p9, p10, readyStays, grantWhole, firstClaim, edges-met}
+use Rattle.rules.specs.Formula.{holds}
+use Rattle.rules.specs.Edges.{p1, p2, p3, p4, p8, p8-then, p9, p10, readyStays, grantWhole, firstClaim}
+use Rattle.rules.specs.Edges.{allMet, edges, edges-met}
 use Rattle.sheet.specs.Printed.{output}
 use Rattle.edges.specs.Single.{Met, met}
 use Rattle.edges.specs.Filled.{p5, filled}
@@ -27,7 +29,8 @@ pub record Edges : Type 0 where
   pub P6 : (refusalOf (readAt limit32 (128 ∷ 0 ∷ []) 0) ≡ 4) × (readAt limit32 (128 ∷ 1 ∷ []) 0 ≡ Value 128 2)
   -- empty sheet: `0 3 0`, then `1 0 0`
   pub P7 : output [] ≡ 48 ∷ 32 ∷ 51 ∷ 32 ∷ 48 ∷ 10 ∷ 49 ∷ 32 ∷ 48 ∷ 32 ∷ 48 ∷ 10 ∷ []
-  -- finish task ends with a live grandchild: not fired; but it fires as the grandchild ends ("treating only children as descendants")
+  -- finish task ends with a live grandchild: not fired; but it fires
+  -- as the grandchild ends ("treating only children as descendants")
   pub P8 : Met p8
   pub P8-then : Met p8-then
   -- two RW holds stand
@@ -46,21 +49,22 @@ unfolding refusalOf
 number-read = (ap refusalOf (number-edge .0), number-edge .1)
 
 pub edges-hold : Edges
-edges-hold =
-    let e = edges-met in
-    record {
-      P1 = met p1 (e .0);
-      P2 = met p2 (e .1 .0);
-      P3 = met p3 (e .1 .1 .0);
-      P4 = met p4 (e .1 .1 .1 .0);
+edges-hold = go edges-met
+  where
+    go : holds (allMet edges) → Edges
+    go (m1, (m2, (m3, (m4, (m8, (m8-then, (m9, (m10, (stays, (whole, (claim, _))))))))))) = record {
+      P1 = met p1 m1;
+      P2 = met p2 m2;
+      P3 = met p3 m3;
+      P4 = met p4 m4;
       P5 = met p5 filled;
       P6 = number-read;
       P7 = empty-sheet;
-      P8 = met p8 (e .1 .1 .1 .1 .0);
-      P8-then = met p8-then (e .1 .1 .1 .1 .1 .0);
-      P9 = met p9 (e .1 .1 .1 .1 .1 .1 .0);
-      P10 = met p10 (e .1 .1 .1 .1 .1 .1 .1 .0);
-      ready-stays = met readyStays (e .1 .1 .1 .1 .1 .1 .1 .1 .0);
-      grant-whole = met grantWhole (e .1 .1 .1 .1 .1 .1 .1 .1 .1 .0);
-      first-claim = met firstClaim (e .1 .1 .1 .1 .1 .1 .1 .1 .1 .1 .0);
+      P8 = met p8 m8;
+      P8-then = met p8-then m8-then;
+      P9 = met p9 m9;
+      P10 = met p10 m10;
+      ready-stays = met readyStays stays;
+      grant-whole = met grantWhole whole;
+      first-claim = met firstClaim claim;
     }

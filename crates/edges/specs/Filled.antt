@@ -6,7 +6,7 @@ use native.Mathlib.Omega.{arith}
 use borrow.Author.Tests.{ne-eqb}
 use Rattle.session.specs.Table.{Session, put, change}
 use Rattle.session.specs.declared.Field.the-variants.{Objects, Kind, TaskState}
-use Rattle.session.specs.Names.{task, running}
+use Rattle.session.specs.Names.{task, running, mostObjects}
 use Rattle.rules.specs.declared.Operation.{Operation}
 use Rattle.rules.specs.Formula.{Formula, holds, test, Formula._≐_, Formula._≼_}
 use Rattle.rules.specs.FormulaLaws.{choose-yes, choose-no}
@@ -28,7 +28,7 @@ handlesLeft = 510
 
 -- "P5 handle 512 is made, the next gives 20": main makes them all, and then asks for one more.
 abbrev pub p5 : Edge
-p5 = runningMain (making handlesLeft 3 ++ refused 1 (2 ∷ 0 ∷ []) 20 ∷ []) (λ s. s Objects 0 ≐ 512)
+p5 = runningMain (making handlesLeft 3 ++ refused 1 (2 ∷ 0 ∷ []) 20 ∷ []) (λ s. s Objects 0 ≐ mostObjects)
 
 abbrev template : Operation
 template = record { code = 1; fields = 2 ∷ 0 ∷ [] }
@@ -43,22 +43,22 @@ module _ (s : Session) (h : ℕ) (r : Runs s h) (low : 2 ≤ h) where
   main-runs : holds (isRunning s 2)
   main-runs = ((omega arith, let o = r .objects in omega arith), (r .kind, r .state))
 
-  takes : h < 512 → answer s template ≡ 0
+  takes : h < mostObjects → answer s template ≡ 0
   unfolding answer rules
   takes l = none-fails (templateChecks s 2 0) (omega arith, (main-runs, ((let o = r .objects in omega arith), tt)))
 
   -- the last check is the first that fails
-  full : h ≡ 512 → answer s template ≡ 20
+  full : h ≡ mostObjects → answer s template ≡ 20
   unfolding answer rules refusal
   full e =
       choose-yes (0 ≼ 17) _ _ (omega arith) ∙ choose-yes (isRunning s 2) _ _ main-runs
-      ∙ choose-no (s Objects 0 + 1 ≼ 512) _ _ (λ l. let o = r .objects in omega arith)
+      ∙ choose-no (s Objects 0 + 1 ≼ mostObjects) _ _ (λ l. let o = r .objects in omega arith)
 
-  makes : h < 512 → outcome s template ≡ h + 1
+  makes : h < mostObjects → outcome s template ≡ h + 1
   unfolding outcome rules
   makes l = choose-yes (answer s template ≐ 0) (s Objects 0 + 1) 0 (takes l) ∙ (let o = r .objects in omega arith)
 
-  leaves : h < 512 → Runs (after s template) (h + 1)
+  leaves : h < mostObjects → Runs (after s template) (h + 1)
   unfolding after rules newTemplate new put
   leaves l =
       rw (choose-yes (answer s template ≐ 0) (newTemplate s 0) s (takes l)) (
@@ -71,28 +71,32 @@ runs-as : (s : Session) (h k : ℕ) → Runs s h → h ≡ k → Runs s k
 runs-as s h k r e = record { objects = r .objects ∙ e; kind = r .kind; state = r .state }
 
 -- n templates more, and then what the session with them shows
-fills : (n h : ℕ) (s : Session) (es : List Expected) (shows : Session → Formula) → Runs s h → 2 ≤ h → n + h ≤ 512
+fills : (n h : ℕ) (s : Session) (es : List Expected) (shows : Session → Formula) → Runs s h → 2 ≤ h → n + h ≤ mostObjects
     → ((f : Session) → Runs f (n + h) → holds (plays f es shows)) → holds (plays s (making n (h + 1) ++ es) shows)
 unfolding making plays
 fills zero h s es shows r low l last = last s (runs-as s h (0 + h) r (omega arith))
 fills (suc n) h s es shows r low l last =
     let more = leaves s h r low (omega arith) in
-    let rest = fills n (h + 1) (after s template) es shows more (omega arith) (omega arith) (λ f x. last f (runs-as f (n + (h + 1)) (suc n + h) x (omega arith))) in
+    let rest = fills n (h + 1) (after s template) es shows more (omega arith) (omega arith)
+    (λ f x. last f (runs-as f (n + (h + 1)) (suc n + h) x (omega arith))) in
     (takes s h r low (omega arith), (makes s h r low (omega arith), rest))
 
 -- at 512 objects, the refusal of the next, which leaves the session as it was
-refuses : (f : Session) → Runs f 512 → holds (plays f (refused 1 (2 ∷ 0 ∷ []) 20 ∷ []) (λ s. s Objects 0 ≐ 512))
+refuses : (f : Session) → Runs f mostObjects → holds (plays f (refused 1 (2 ∷ 0 ∷ []) 20 ∷ []) (λ s. s Objects 0 ≐ mostObjects))
 unfolding plays after outcome rules
 refuses f r =
-    let e = full f 512 r (omega arith) refl in
+    let e = full f mostObjects r (omega arith) refl in
     let no : answer f template ≡ 0 → ⊥ = λ z. omega arith in
     (e, (choose-no (answer f template ≐ 0) _ 0 no, rw (choose-no (answer f template ≐ 0) (newTemplate f 0) f no) (r .objects)))
 
 -- main granted and started
-main-started : (es : List Expected) (shows : Session → Formula) → ((s : Session) → Runs s 2 → holds (plays s es shows)) → holds (isMet (runningMain es shows))
+main-started : (es : List Expected) (shows : Session → Formula) → ((s : Session) → Runs s 2 → holds (plays s es shows))
+    → holds (isMet (runningMain es shows))
 unfolding plays after answer outcome rules refusal test freshSession new put change grant start
 main-started es shows rest = (refl, (refl, (refl, (refl, rest _ (record { objects = refl; kind = refl; state = refl })))))
 
 pub filled : holds (isMet p5)
 filled =
-    main-started _ _ (λ s r. fills handlesLeft 2 s (refused 1 (2 ∷ 0 ∷ []) 20 ∷ []) (λ s. s Objects 0 ≐ 512) r (omega arith) (omega arith) (λ f x. refuses f x))
+    main-started _ _
+    (λ s r. fills handlesLeft 2 s (refused 1 (2 ∷ 0 ∷ []) 20 ∷ []) (λ s. s Objects 0 ≐ mostObjects) r (omega arith) (omega arith)
+    (λ f x. refuses f x))

@@ -1,5 +1,4 @@
 -- A case of `rules` as single calls from a fresh session: each call with check 2, one working on what the last one left.
-use Prim.Native.Nat.{ℕ}
 use mathlib.Core.List.{List, [], _∷_}
 use mathlib.Core.Path.{_≡_, ap, _∙_}
 use Rattle.session.specs.Table.{Session}
@@ -20,7 +19,8 @@ operations (e ∷ es) = e .operation ∷ operations es
 unfoldable pub AsExpected : Session → List Expected → Type 0
 AsExpected s [] = Unit {0}
 AsExpected s (e ∷ es) =
-    (step s (e .operation) .refused ≡ e .refused) × (step s (e .operation) .made ≡ e .made) × AsExpected (next s (e .operation)) es
+    (step s (e .operation) .refused ≡ e .refused) × (step s (e .operation) .made ≡ e .made)
+    × AsExpected (next s (e .operation)) es
 
 -- and after the list the session shows what it must
 pub record Met (e : Edge) : Type 0 where

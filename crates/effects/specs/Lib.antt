@@ -1,8 +1,8 @@
 pub mod Puts
-pub mod Firing
-pub mod Making
+pub mod OpenLinks
+pub mod FirstValues
 pub mod Satisfying
 pub mod Linking
 pub mod Delivering
-pub mod Bounds
-pub mod Operations
+pub mod Ready
+pub mod Made

@@ -4,14 +4,15 @@ use Prim.Native.Nat.{ℕ, _+_, _-_, _≤_, _<_}
 use mathlib.Core.Path.{_≡_, ap, sym, _∙_}
 use mathlib.Core.Bool.{Bool, true, false}
 use Rattle.session.specs.Table.{Session, put, pick, at}
-use Rattle.session.specs.declared.Field.the-variants.{Links, Kind, TaskState, TaskSlots, EventState, EventType, EventTally, SlotMark, SlotPayload}
+use Rattle.session.specs.declared.Field.the-variants.{Links, Kind, TaskState, TaskSlots, EventState, EventType, EventTally}
+use Rattle.session.specs.declared.Field.the-variants.{SlotMark, SlotPayload}
 use Rattle.session.specs.Names.{mostObjects, mostLinks, task, latch, topTally, fired, satisfied, resolved}
 use Rattle.rules.specs.Formula.{choose, test, Formula._≐_}
 use Rattle.rules.specs.FormulaLaws.{choose-yes, choose-no}
 use Rattle.rules.specs.Sound.{full}
 use Rattle.rules.specs.Effects.{fireOne, satisfySlot, tally, satisfyEvent}
 use Rattle.effects.specs.Puts.{put-same}
-use Rattle.effects.specs.Firing.{NoMoreLinks}
+use Rattle.effects.specs.OpenLinks.{NoMoreLinks}
 
 -- event e has a place, and so have the links
 pub record Firable (s : Session) (e : ℕ) : Type 0 where
@@ -52,7 +53,8 @@ abbrev with-state : Session → ℕ → ℕ → ℕ → Bool → Session
 with-state s t j p b = put (filled s t j p) TaskState t (pick b resolved (s TaskState t))
 
 -- the last slot, and another
-pub filled-last : (s : Session) (t j p : ℕ) → test (full (filled s t j p) t) ≡ true → put (filled s t j p) TaskState t resolved ≡ satisfySlot s t j p
+pub filled-last : (s : Session) (t j p : ℕ) → test (full (filled s t j p) t) ≡ true
+    → put (filled s t j p) TaskState t resolved ≡ satisfySlot s t j p
 unfolding satisfySlot put
 filled-last s t j p e = ap (with-state s t j p) (sym e)
 
@@ -68,9 +70,12 @@ event-counts s e j p t = choose-yes (s EventType e ≐ latch) (tally s e j) (cho
 pub event-stays : (s : Session) (e j p : ℕ) → (s EventType e ≡ latch → ⊥) → s EventState e ≡ fired → satisfyEvent s e j p ≡ s
 unfolding satisfyEvent
 event-stays s e j p t f =
-    choose-no (s EventType e ≐ latch) (tally s e j) (choose (s EventState e ≐ fired) s (fireOne s e p)) t ∙ choose-yes (s EventState e ≐ fired) s (fireOne s e p) f
+    choose-no (s EventType e ≐ latch) (tally s e j) (choose (s EventState e ≐ fired) s (fireOne s e p)) t ∙ choose-yes
+    (s EventState e ≐ fired) s (fireOne s e p) f
 
-pub event-fires : (s : Session) (e j p : ℕ) → (s EventType e ≡ latch → ⊥) → (s EventState e ≡ fired → ⊥) → satisfyEvent s e j p ≡ fireOne s e p
+pub event-fires : (s : Session) (e j p : ℕ) → (s EventType e ≡ latch → ⊥) → (s EventState e ≡ fired → ⊥)
+    → satisfyEvent s e j p ≡ fireOne s e p
 unfolding satisfyEvent
 event-fires s e j p t f =
-    choose-no (s EventType e ≐ latch) (tally s e j) (choose (s EventState e ≐ fired) s (fireOne s e p)) t ∙ choose-no (s EventState e ≐ fired) s (fireOne s e p) f
+    choose-no (s EventType e ≐ latch) (tally s e j) (choose (s EventState e ≐ fired) s (fireOne s e p)) t ∙ choose-no
+    (s EventState e ≐ fired) s (fireOne s e p) f

@@ -1,67 +1,18 @@
-// Delivering a link.
-use crate::satisfying::satisfy;
+// Delivering a link: operation 9.
+use crate::satisfying::satisfy_either;
 use session::Field;
-ghost use mathlib.Core.Path.{_≡_};
 ghost use Prim.Native.Nat.{_≤_};
 ghost use lib.ListN.{length};
 ghost use Rattle.session.specs.Table.{Wrote, read, words};
-ghost use Rattle.session.specs.declared.Field.the-variants.{Kind, EventType};
-ghost use Rattle.session.specs.Names.{event};
-ghost use Rattle.rules.specs.Formula.{test};
+ghost use Rattle.rules.specs.Formula.{holds};
+ghost use Rattle.rules.specs.Sound.{sound};
+ghost use Rattle.rules.specs.Checks.{deliverChecks};
 ghost use Rattle.rules.specs.Effects as rules;
-ghost use Rattle.effects.specs.Delivering.{Target, Deliverable, leaves};
+ghost use Rattle.laws.specs.Met.{met};
 
-// Whether a satisfaction of slot j takes a latch with tally n out of its range.
-fn leaves_range(n: u64, j: u64) -> bool
-    ensures { λ r. ⌜ r ≡ test (leaves n j) ⌝ }
-{
-    if j == 0 {
-        return n == 0;
-    }
-    if j == 1 {
-        return n == session::names::TOP_TALLY;
-    }
-    false
-}
-
-// Whether a delivery to slot j of event e is dropped. Internal: callers have shown the length and the event.
-fn event_drops(s: &[u64], e: u64, j: u64) -> bool
-    requires { ⌜ (words ≤ length (now s)) × (e ≤ 512) × (read (now s) Kind e ≡ event) × (1 ≤ read (now s) EventType e) ⌝ }
-    ensures { λ r. ⌜ r ≡ test (rules.drops (read (now (s .entry))) e j) ⌝ }
-{
-    let at = e as usize;
-    let state = session::get(s, Field::EventState, at);
-    if session::names::DESTROYED_UNFIRED <= state {
-        return true;
-    }
-    let ty = session::get(s, Field::EventType, at);
-    if state == session::names::FIRED {
-        if ty == session::names::IDEMPOTENT {
-            return false;
-        }
-        return true;
-    }
-    if ty == session::names::LATCH {
-        return leaves_range(session::get(s, Field::EventTally, at), j);
-    }
-    false
-}
-
-// Whether a delivery to slot j of d is dropped. Internal: callers have shown the length and that d is a task or an event.
-fn target_drops(s: &[u64], d: u64, j: u64) -> bool
-    requires { ⌜ (words ≤ length (now s)) × Target (read (now s)) d ⌝ }
-    ensures { λ r. ⌜ r ≡ test (rules.drops (read (now (s .entry))) d j) ⌝ }
-{
-    let at = d as usize;
-    if session::get(s, Field::Kind, at) == session::names::TASK {
-        return session::names::ENDED <= session::get(s, Field::TaskState, at);
-    }
-    event_drops(s, d, j)
-}
-
-// Delivers link l. Internal: callers have shown the length and what `Deliverable` says.
+// 9 deliver (link). Internal: callers have shown the length, a sound session and the checks.
 pub fn deliver(s: &mut [u64], l: u64)
-    requires { ⌜ (words ≤ length (now s)) × Deliverable (read (now s)) l ⌝ }
+    requires { ⌜ (words ≤ length (now s)) × holds (sound (read (now s))) × met (deliverChecks (read (now s)) l) ⌝ }
     ensures { λ r. ⌜ Wrote (now (s .entry)) (now (s .exit)) (rules.deliver (read (now (s .entry))) l) ⌝ }
 {
     let at = l as usize;
@@ -70,11 +21,11 @@ pub fn deliver(s: &mut [u64], l: u64)
     let source = session::get(s, Field::LinkSource, at);
     let p = session::get(s, Field::EventPayload, source as usize);
     let n = session::get(s, Field::Dropped, 0);
-    let drops = target_drops(s, d, j);
+    let drops = reading::drops(s, d, j);
     session::set(s, Field::LinkState, at, session::names::DELIVERED);
     if drops {
         session::set(s, Field::Dropped, 0, n + 1);
         return;
     }
-    satisfy(s, d, j, p);
+    satisfy_either(s, d, j, p);
 }

@@ -3,11 +3,12 @@ use session::Field;
 ghost use mathlib.Core.Path.{_≡_};
 ghost use Prim.Native.Nat.{_≤_, _<_};
 ghost use lib.ListN.{length};
+ghost use Rattle.session.specs.Names.{mostObjects, mostLinks, linkPlaces};
 ghost use Rattle.session.specs.Table.{Wrote, read, put, words};
 ghost use Rattle.session.specs.declared.Field.the-variants.{Links, LinkState};
 ghost use Rattle.rules.specs.Effects.{fireOne};
 ghost use Rattle.rules.specs.Formula.{test};
-ghost use Rattle.effects.specs.Firing.{linkSet, openLinksSet, NoMoreLinks, linkNear, Passed};
+ghost use Rattle.effects.specs.OpenLinks.{linkSet, openLinksSet, NoMoreLinks, linkNear, Passed};
 
 // Whether one of the eight links from l on is from event e. The bound is constant, so that the eight tests stand in a row.
 // Internal: callers have shown the length and the links.
@@ -28,7 +29,7 @@ fn has_link(s: &[u64], e: u64, l: usize) -> bool
 // l + 8 where eight links from l on are there and none is from event e, else l. Internal: callers have shown the length and
 // the link.
 fn past_others(s: &[u64], e: u64, l: usize) -> usize
-    requires { ⌜ (words ≤ length (now s)) × (l < 2049) ⌝ }
+    requires { ⌜ (words ≤ length (now s)) × (l < linkPlaces) ⌝ }
     ensures { λ r. ⌜ Passed (read (now (s .entry))) e l r ⌝ }
 {
     if 2041 < l {
@@ -42,7 +43,7 @@ fn past_others(s: &[u64], e: u64, l: usize) -> usize
 
 // Gives link l the state v if it is open and from event e. Internal, as `past_others` is.
 fn set_open_link(s: &mut [u64], e: u64, v: u64, l: usize)
-    requires { ⌜ (words ≤ length (now s)) × (l < 2049) ⌝ }
+    requires { ⌜ (words ≤ length (now s)) × (l < linkPlaces) ⌝ }
     ensures { λ r. ⌜
         Wrote (now (s .entry)) (now (s .exit)) (put (read (now (s .entry))) LinkState l (linkSet (read (now (s .entry))) e v l))
         ⌝ }
@@ -57,7 +58,7 @@ fn set_open_link(s: &mut [u64], e: u64, v: u64, l: usize)
 // Gives the open links of event e the state v. Most links are from others: they are passed eight at a time, and no store is
 // made. Internal: callers have shown the length, the count of links, and that no link stands past the count.
 pub fn set_open_links(s: &mut [u64], e: u64, v: u64)
-    requires { ⌜ (words ≤ length (now s)) × (read (now s) Links 0 ≤ 2048) × NoMoreLinks (read (now s)) ⌝ }
+    requires { ⌜ (words ≤ length (now s)) × (read (now s) Links 0 ≤ mostLinks) × NoMoreLinks (read (now s)) ⌝ }
     ensures { λ r. ⌜ Wrote (now (s .entry)) (now (s .exit)) (openLinksSet (read (now (s .entry))) e v) ⌝ }
 {
     let n = session::get(s, Field::Links, 0) as usize;
@@ -76,7 +77,8 @@ pub fn set_open_links(s: &mut [u64], e: u64, v: u64)
 // Fires event e with payload p. Internal: callers have shown the length, the handle, the count of links, and that no link
 // stands past the count.
 pub fn fire_one(s: &mut [u64], e: u64, p: u64)
-    requires { ⌜ (words ≤ length (now s)) × (e ≤ 512) × (read (now s) Links 0 ≤ 2048) × NoMoreLinks (read (now s)) ⌝ }
+    requires { ⌜ (words ≤ length (now s)) × (e ≤ mostObjects) × (read (now s) Links 0 ≤ mostLinks)
+        × NoMoreLinks (read (now s)) ⌝ }
     ensures { λ r. ⌜ Wrote (now (s .entry)) (now (s .exit)) (fireOne (read (now (s .entry))) e p) ⌝ }
 {
     let at = e as usize;

@@ -1,7 +1,17 @@
-// What accepted operations that make and satisfy do to a session's memory: one function for each effect of the rules.
-pub mod delivering;
-pub mod firing;
-pub mod linking;
-pub mod making;
-pub mod operations;
-pub mod satisfying;
+// What accepted operations that make and satisfy do to a session's memory: a function for each, by its name, and the parts that
+// others fire events with.
+mod delivering;
+mod firing;
+mod linking;
+mod making;
+mod satisfying;
+
+pub use delivering::deliver;
+pub use firing::fire_one;
+pub use firing::set_open_links;
+pub use linking::dependence;
+pub use making::block;
+pub use making::event;
+pub use making::task;
+pub use making::template;
+pub use satisfying::satisfy;

@@ -1,32 +1,49 @@
-// Making templates, tasks, events and blocks.
+// Making templates, tasks, events and blocks: operations 1 to 4.
 use session::Field;
 ghost use mathlib.Core.Path.{_≡_};
-ghost use Prim.Native.Nat.{_≤_, _<_, _+_};
+ghost use Prim.Native.Nat.{_≤_, _+_};
 ghost use lib.ListN.{length};
+ghost use Rattle.session.specs.Names.{mostObjects};
 ghost use Rattle.session.specs.Table.{Wrote, read, words};
 ghost use Rattle.session.specs.declared.Field.the-variants.{Objects};
+ghost use Rattle.rules.specs.Formula.{holds};
+ghost use Rattle.rules.specs.Sound.{sound};
+ghost use Rattle.rules.specs.Checks.{taskSlots, templateChecks, taskChecks, eventChecks, blockChecks};
 ghost use Rattle.rules.specs.Effects.{new, newTemplate, newEvent, newTask, makeTask, newBlock};
-ghost use Rattle.effects.specs.Making.{firstTally, firstState};
+ghost use Rattle.laws.specs.Met.{met};
+ghost use Rattle.effects.specs.Made.{Made};
+ghost use Rattle.effects.specs.FirstValues.{firstTally, firstState};
+
+// The handle that the next object gets. Internal: callers have shown the length and the room.
+fn next_object(s: &[u64]) -> u64
+    requires { ⌜ (words ≤ length (now s)) × (read (now s) Objects 0 + 1 ≤ mostObjects) ⌝ }
+    ensures { λ r. ⌜ r ≡ read (now (s .entry)) Objects 0 + 1 ⌝ }
+{
+    session::get(s, Field::Objects, 0) + 1
+}
 
 // Object h is the last, and of this kind. Internal: callers have shown the length and the handle.
 fn new_object(s: &mut [u64], h: u64, kind: u64)
-    requires { ⌜ (words ≤ length (now s)) × (h ≤ 512) ⌝ }
+    requires { ⌜ (words ≤ length (now s)) × (h ≤ mostObjects) ⌝ }
     ensures { λ r. ⌜ Wrote (now (s .entry)) (now (s .exit)) (new (read (now (s .entry))) h kind) ⌝ }
 {
     session::set(s, Field::Objects, 0, h);
     session::set(s, Field::Kind, h as usize, kind);
 }
 
-// A new template with n pre-slots, or 17 for unknown. Internal: callers have shown the length and the room.
-pub fn new_template(s: &mut [u64], n: u64)
-    requires { ⌜ (words ≤ length (now s)) × (read (now s) Objects 0 < 512) ⌝ }
-    ensures { λ r. ⌜ Wrote (now (s .entry)) (now (s .exit)) (newTemplate (read (now (s .entry))) n) ⌝ }
+// 1 template (caller, count of pre-slots or 17). Internal: callers have shown the length, a sound session and the checks.
+pub fn template(s: &mut [u64], caller: u64, n: u64) -> u64
+    requires { ⌜ (words ≤ length (now s)) × holds (sound (read (now s))) × met (templateChecks (read (now s)) caller n) ⌝ }
+    ensures { λ r. ⌜
+        Made (now (s .entry)) (now (s .exit)) (newTemplate (read (now (s .entry))) n) (read (now (s .entry)) Objects 0 + 1) r
+        ⌝ }
 {
-    let h = session::get(s, Field::Objects, 0) + 1;
+    let h = next_object(s);
     new_object(s, h, session::names::TEMPLATE);
     let at = h as usize;
     session::set(s, Field::TemplateState, at, session::names::FRESH);
     session::set(s, Field::TemplateCount, at, n);
+    h
 }
 
 // The tally of an event of this type as it is made: a latch counts from 0.
@@ -40,8 +57,8 @@ fn first_tally(ty: u64) -> u64
 }
 
 // A new event of type ty with handle h. Internal: callers have shown the length and the handle.
-pub fn new_event(s: &mut [u64], h: u64, ty: u64)
-    requires { ⌜ (words ≤ length (now s)) × (h ≤ 512) ⌝ }
+fn new_event(s: &mut [u64], h: u64, ty: u64)
+    requires { ⌜ (words ≤ length (now s)) × (h ≤ mostObjects) ⌝ }
     ensures { λ r. ⌜ Wrote (now (s .entry)) (now (s .exit)) (newEvent (read (now (s .entry))) h ty) ⌝ }
 {
     new_object(s, h, session::names::EVENT);
@@ -63,7 +80,7 @@ fn first_state(n: u64) -> u64
 
 // A new task with handle h and n pre-slots. Internal: callers have shown the length and the handle.
 fn new_task(s: &mut [u64], caller: u64, h: u64, n: u64, finish: u64, out: u64)
-    requires { ⌜ (words ≤ length (now s)) × (h ≤ 512) ⌝ }
+    requires { ⌜ (words ≤ length (now s)) × (h ≤ mostObjects) ⌝ }
     ensures { λ r. ⌜ Wrote (now (s .entry)) (now (s .exit)) (newTask (read (now (s .entry))) caller h n finish out) ⌝ }
 {
     new_object(s, h, session::names::TASK);
@@ -75,27 +92,53 @@ fn new_task(s: &mut [u64], caller: u64, h: u64, n: u64, finish: u64, out: u64)
     session::set(s, Field::TaskOutput, at, out);
 }
 
-// A new task, with out 1 its output event after it. Internal: callers have shown the length and the room.
-pub fn make_task(s: &mut [u64], caller: u64, slots: u64, finish: u64, out: u64)
-    requires { ⌜ (words ≤ length (now s)) × (read (now s) Objects 0 + (1 + out) ≤ 512) ⌝ }
-    ensures { λ r. ⌜ Wrote (now (s .entry)) (now (s .exit)) (makeTask (read (now (s .entry))) caller slots finish out) ⌝ }
+// 2 task (caller, template, count, finish, output): with output 1 its output event comes after it. Internal, as `template` is.
+pub fn task(s: &mut [u64], caller: u64, tm: u64, n: u64, finish: u64, out: u64) -> u64
+    requires { ⌜
+        (words ≤ length (now s)) × holds (sound (read (now s))) × met (taskChecks (read (now s)) caller tm n finish out)
+        ⌝ }
+    ensures { λ r. ⌜
+        Made (now (s .entry)) (now (s .exit))
+        (makeTask (read (now (s .entry))) caller (taskSlots (read (now (s .entry))) tm n) finish out)
+        (read (now (s .entry)) Objects 0 + 1) r
+        ⌝ }
 {
-    let h = session::get(s, Field::Objects, 0) + 1;
+    let slots = reading::task_slots(s, tm, n);
+    let h = next_object(s);
     new_task(s, caller, h, slots, finish, out);
     if out == 1 {
         new_event(s, h + 1, session::names::OUTPUT);
+        return h;
     }
+    h
 }
 
-// A new block, with hold 1 held by its creator. Internal: callers have shown the length and the room.
-pub fn new_block(s: &mut [u64], caller: u64, hold: u64)
-    requires { ⌜ (words ≤ length (now s)) × (read (now s) Objects 0 < 512) ⌝ }
-    ensures { λ r. ⌜ Wrote (now (s .entry)) (now (s .exit)) (newBlock (read (now (s .entry))) caller hold) ⌝ }
+// 3 event (caller, type). Internal, as `template` is.
+pub fn event(s: &mut [u64], caller: u64, ty: u64) -> u64
+    requires { ⌜ (words ≤ length (now s)) × holds (sound (read (now s))) × met (eventChecks (read (now s)) caller ty) ⌝ }
+    ensures { λ r. ⌜
+        Made (now (s .entry)) (now (s .exit)) (newEvent (read (now (s .entry))) (read (now (s .entry)) Objects 0 + 1) ty)
+        (read (now (s .entry)) Objects 0 + 1) r
+        ⌝ }
 {
-    let h = session::get(s, Field::Objects, 0) + 1;
+    let h = next_object(s);
+    new_event(s, h, ty);
+    h
+}
+
+// 4 block (caller, hold): with hold 1 its creator holds it. Internal, as `template` is.
+pub fn block(s: &mut [u64], caller: u64, hold: u64) -> u64
+    requires { ⌜ (words ≤ length (now s)) × holds (sound (read (now s))) × met (blockChecks (read (now s)) caller hold) ⌝ }
+    ensures { λ r. ⌜
+        Made (now (s .entry)) (now (s .exit)) (newBlock (read (now (s .entry))) caller hold)
+        (read (now (s .entry)) Objects 0 + 1) r
+        ⌝ }
+{
+    let h = next_object(s);
     new_object(s, h, session::names::BLOCK);
     let at = h as usize;
     session::set(s, Field::BlockState, at, session::names::FRESH);
     session::set(s, Field::BlockCreator, at, caller);
     session::set(s, Field::BlockHeld, at, hold);
+    h
 }

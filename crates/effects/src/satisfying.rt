@@ -1,36 +1,22 @@
-// Satisfying a pre-slot of a task or a slot of an event.
+// Satisfying a pre-slot of a task or a slot of an event; operation 6.
 use crate::firing::fire_one;
+use reading::is_full;
 use session::Field;
 ghost use mathlib.Core.Path.{_≡_};
-ghost use Prim.Native.Nat.{_≤_, _<_};
+ghost use Prim.Native.Nat.{_≤_};
 ghost use lib.ListN.{length};
+ghost use Rattle.session.specs.Names.{mostObjects};
 ghost use Rattle.session.specs.Table.{Wrote, read, words};
-ghost use Rattle.session.specs.declared.Field.the-variants.{TaskSlots};
-ghost use Rattle.rules.specs.Formula.{test};
-ghost use Rattle.rules.specs.Sound.{full};
+ghost use Rattle.rules.specs.Formula.{holds};
+ghost use Rattle.rules.specs.Sound.{sound};
+ghost use Rattle.rules.specs.Checks.{satisfyChecks};
 ghost use Rattle.rules.specs.Effects as rules;
+ghost use Rattle.laws.specs.Met.{met};
 ghost use Rattle.effects.specs.Satisfying.{Firable, Countable, Fillable, Triggerable, Satisfiable, nextTally};
 
-// Whether every pre-slot of task t is satisfied. Internal: callers have shown the length, the handle and the count of slots.
-fn is_full(s: &[u64], t: u64) -> bool
-    requires { ⌜ (words ≤ length (now s)) × (t ≤ 512) × (read (now s) TaskSlots t ≤ 16) ⌝ }
-    ensures { λ r. ⌜ r ≡ test (full (read (now (s .entry))) t) ⌝ }
-{
-    let n = session::get(s, Field::TaskSlots, t as usize) as usize;
-    let first = t as usize * 16;
-    let mut j: usize = 0;
-    while j < n {
-        if session::get(s, Field::SlotMark, first + j) == 0 {
-            return false;
-        }
-        j += 1;
-    }
-    true
-}
-
 // Satisfies slot j of task t with p. Internal: callers have shown the length, the handle and the slot.
-pub fn satisfy_slot(s: &mut [u64], t: u64, j: u64, p: u64)
-    requires { ⌜ (words ≤ length (now s)) × (t ≤ 512) × Fillable (read (now s)) t j ⌝ }
+fn satisfy_slot(s: &mut [u64], t: u64, j: u64, p: u64)
+    requires { ⌜ (words ≤ length (now s)) × (t ≤ mostObjects) × Fillable (read (now s)) t j ⌝ }
     ensures { λ r. ⌜ Wrote (now (s .entry)) (now (s .exit)) (rules.satisfySlot (read (now (s .entry))) t j p) ⌝ }
 {
     let at = t as usize * 16 + j as usize;
@@ -54,7 +40,7 @@ fn next_tally(n: u64, j: u64) -> u64
 
 // Counts latch e by its slot j, and fires it at the count 0. Internal: callers have shown the length, the handle, the links
 // and the latch's range.
-pub fn tally(s: &mut [u64], e: u64, j: u64)
+fn tally(s: &mut [u64], e: u64, j: u64)
     requires { ⌜ (words ≤ length (now s)) × Firable (read (now s)) e × Countable (read (now s)) e j ⌝ }
     ensures { λ r. ⌜ Wrote (now (s .entry)) (now (s .exit)) (rules.tally (read (now (s .entry))) e j) ⌝ }
 {
@@ -67,7 +53,7 @@ pub fn tally(s: &mut [u64], e: u64, j: u64)
 }
 
 // Satisfies slot j of event e with p. Internal: callers have shown the length, the handle, the links and, of a latch, its range.
-pub fn satisfy_event(s: &mut [u64], e: u64, j: u64, p: u64)
+fn satisfy_event(s: &mut [u64], e: u64, j: u64, p: u64)
     requires { ⌜ (words ≤ length (now s)) × Triggerable (read (now s)) e j ⌝ }
     ensures { λ r. ⌜ Wrote (now (s .entry)) (now (s .exit)) (rules.satisfyEvent (read (now (s .entry))) e j p) ⌝ }
 {
@@ -83,7 +69,7 @@ pub fn satisfy_event(s: &mut [u64], e: u64, j: u64, p: u64)
 }
 
 // Satisfies slot j of task or event d with p. Internal: callers have shown the length and what `Satisfiable` says.
-pub fn satisfy(s: &mut [u64], d: u64, j: u64, p: u64)
+pub fn satisfy_either(s: &mut [u64], d: u64, j: u64, p: u64)
     requires { ⌜ (words ≤ length (now s)) × Satisfiable (read (now s)) d j ⌝ }
     ensures { λ r. ⌜ Wrote (now (s .entry)) (now (s .exit)) (rules.satisfy (read (now (s .entry))) d j p) ⌝ }
 {
@@ -92,4 +78,12 @@ pub fn satisfy(s: &mut [u64], d: u64, j: u64, p: u64)
         return;
     }
     satisfy_event(s, d, j, p);
+}
+
+// 6 satisfy (caller, event, block or 0, slot). Internal: callers have shown the length, a sound session and the checks.
+pub fn satisfy(s: &mut [u64], caller: u64, e: u64, b: u64, j: u64)
+    requires { ⌜ (words ≤ length (now s)) × holds (sound (read (now s))) × met (satisfyChecks (read (now s)) caller e b j) ⌝ }
+    ensures { λ r. ⌜ Wrote (now (s .entry)) (now (s .exit)) (rules.satisfyEvent (read (now (s .entry))) e j b) ⌝ }
+{
+    satisfy_event(s, e, j, b);
 }

@@ -15,14 +15,15 @@ use Rattle.rules.specs.declared.Answer.the-variants.{Accepted, Refused}
 use Rattle.rules.specs.Formula.{test, Formula._≐_}
 use Rattle.rules.specs.Answer.{answerOf}
 use Rattle.rules.specs.Step.{Reply, freshSession, step}
-use Rattle.rules.specs.Book.{Call, book, opening}
-use Rattle.rules.specs.Demand.{Demand3, accepted, next, run, calls, sessionAfter, bookAfter}
+use Rattle.rules.specs.Book.{opening}
+use Rattle.rules.specs.Demand.{Demand3, accepted, next, run, calls, sessionAfter, bookAfter, Call, book}
 use Rattle.laws.specs.Demand.{demand-3}
 use Rattle.engine.specs.Played.{Answered}
 
 -- Calls on one memory, one after the other: the memory before the first, the operations, what each answered, and the memory
 -- after the last. `Does` is the contract of one call: of the memory before and after it, its operation and its answer.
-pub data Chain {A : Type 0} (Does : List ℕ → List ℕ → Operation → A → Type 0) : List ℕ → List Operation → List A → List ℕ → Type 0 where
+pub data Chain {A : Type 0} (Does : List ℕ → List ℕ → Operation → A → Type 0) : List ℕ → List Operation → List A → List ℕ
+    → Type 0 where
   none : {memory : List ℕ} → Chain Does memory [] [] memory
   call : {before between after : List ℕ} {o : Operation} {os : List Operation} {r : A} {rs : List A}
       → Does before between o r → Chain Does between os rs after → Chain Does before (o ∷ os) (r ∷ rs) after
@@ -41,7 +42,8 @@ module _ {A : Type 0} where
 
   -- What calls from a fresh session on are, the refused ones among them. `says` is the answer of a reply, `accepts` whether an
   -- answer is that of an accepted call.
-  pub record FromFresh (says : Reply → A) (accepts : A → Bool) (lent : List ℕ) (os : List Operation) (rs : List A) (after : List ℕ) : Type 0 where
+  pub record FromFresh (says : Reply → A) (accepts : A → Bool) (lent : List ℕ) (os : List Operation) (rs : List A)
+      (after : List ℕ) : Type 0 where
     -- the memory holds the session after the list; past the layout it is as it was lent
     pub leaves : Wrote lent after (sessionAfter os)
     -- each answered what `step` says of the session that the calls before it left
@@ -55,7 +57,8 @@ module _ {A : Type 0} (Does : List ℕ → List ℕ → Operation → A → Type
     (told : (before after : List ℕ) (o : Operation) (r : A) → words ≤ length before → Does before after o r
     → (r ≡ says (step (read before) o)) × Wrote before after (step (read before) o .leaves))
     (agrees : (reply : Reply) → accepts (says reply) ≡ test (reply .refused ≐ 0)) where
-  pub chain-run : {before after : List ℕ} {os : List Operation} {rs : List A} → words ≤ length before → Chain Does before os rs after
+  pub chain-run : {before after : List ℕ} {os : List Operation} {rs : List A} → words ≤ length before
+      → Chain Does before os rs after
       → (rs ≡ answers says (read before) os) × Wrote before after (run (read before) os)
   unfolding answers run next
   chain-run h none = (refl, wrote-none _)
@@ -69,7 +72,8 @@ module _ {A : Type 0} (Does : List ℕ → List ℕ → Operation → A → Type
   fed-calls s [] = refl
   fed-calls s (o ∷ os) = rw (agrees (step s o), fed-calls (next s o) os)
 
-  pub chain-demand : {lent first after : List ℕ} {os : List Operation} {rs : List A} → words ≤ length lent → Leaves lent first freshSession
+  pub chain-demand : {lent first after : List ℕ} {os : List Operation} {rs : List A} → words ≤ length lent
+      → Leaves lent first freshSession
       → Chain Does first os rs after → FromFresh says accepts lent os rs after
   chain-demand {lent} {first} {after} {os} {rs} h f c =
       let w : Wrote lent first freshSession = rw (le-leb words (length lent) h) at f in
@@ -86,7 +90,8 @@ unfoldable pub isAccepted : Answer → Bool
 isAccepted (Accepted m) = true
 isAccepted (Refused n) = false
 
-pub apply-demand : {lent first after : List ℕ} {os : List Operation} {rs : List Answer} → words ≤ length lent → Leaves lent first freshSession
+pub apply-demand : {lent first after : List ℕ} {os : List Operation} {rs : List Answer} → words ≤ length lent
+    → Leaves lent first freshSession
     → Chain Answered first os rs after → FromFresh answerOf isAccepted lent os rs after
 unfolding answerOf isAccepted
 apply-demand = chain-demand Answered answerOf isAccepted told (λ reply. agrees reply (test (reply .refused ≐ 0)))

@@ -1,10 +1,10 @@
 -- What running an operation on lent memory answers and leaves.
-use Prim.Native.Nat.{ℕ, suc, _-_, _≤_, _<_}
-use mathlib.Core.Path.{_≡_, refl, ap, sym, _∙_}
+use Prim.Native.Nat.{ℕ, _≤_, _<_}
+use mathlib.Core.Path.{_≡_, refl, ap, sym, subst, _∙_}
 use native.Mathlib.Omega.{arith}
 use mathlib.Core.Bool.{true, false}
 use mathlib.Core.List.{List}
-use lib.ListN.{length}
+use lib.ListN.{length, List·getD-eq-default}
 use lib.Dec.{leb}
 use borrow.Author.Tests.{le-leb, lt-leb}
 use Rattle.session.specs.Table.{Session, Wrote, read, words, pick}
@@ -17,9 +17,9 @@ use Rattle.rules.specs.FormulaLaws.{choose-yes, choose-no, passed, failed}
 use Rattle.rules.specs.Checks.{Check, refusal}
 use Rattle.rules.specs.Answer.{refusedOf, madeOf, answerOf, answer-accepted, answer-refused, refused-told, made-told}
 use Rattle.rules.specs.Sound.{sound}
-use Rattle.rules.specs.Step.{Reply, rules, ruleOf, answer, after, outcome, step}
-use Rattle.sound.specs.Whole.{soundMemory, memory-tested}
-use Rattle.laws.specs.Cases.{step-sound, step-unsound}
+use Rattle.rules.specs.Step.{Reply, Rule, rules, lastCode, ruleOf, unknown, answer, after, outcome, step}
+use Rattle.sound.specs.RulesInOrder.{soundMemory, memory-tested}
+use Rattle.laws.specs.Accepted.{step-sound, step-unsound}
 use Rattle.laws.specs.OneCall.{refusal-makes-nothing}
 
 -- What a call answers and leaves in memory: the reply's answer; its session, the words past the layout as they were; and where the
@@ -65,7 +65,8 @@ played-refused ws n checks does makes e z =
     }
 
 -- an operation accepted
-pub played-accepted : (before after : List ℕ) (m : ℕ) (checks : List Check) (does : Session) (makes : ℕ) → refusal checks ≡ 0 → m ≡ makes
+pub played-accepted : (before after : List ℕ) (m : ℕ) (checks : List Check) (does : Session) (makes : ℕ) → refusal checks ≡ 0
+    → m ≡ makes
     → Wrote before after does → Played before after (Accepted m) checks does makes
 unfolding replyBy
 played-accepted before after m checks does makes e q w =
@@ -77,28 +78,21 @@ played-accepted before after m checks does makes e q w =
     }
 
 -- a code that there is not
-pub played-unknown : (ws : List ℕ) (code : ℕ) (fields : List ℕ) → 13 ≤ code → PlayedBy ws ws (Refused 6) code fields
+pub played-unknown : (ws : List ℕ) (code : ℕ) (fields : List ℕ) → lastCode < code → PlayedBy ws ws (Refused 6) code fields
 unfolding rules refusal test
 played-unknown ws code fields h =
-    let e : code ≡ suc (suc (suc (suc (suc (suc (suc (suc (suc (suc (suc (suc (suc (code - 13))))))))))))) = omega arith in
-    rw e (played-refused ws 6 _ _ _ refl (λ z. omega arith))
+    let o = operationOf code fields in
+    let e : ruleOf o ≡ unknown = List·getD-eq-default rules unknown h in
+    subst (λ (r : Rule). Played ws ws (Refused 6) (r .asks (read ws) o) (r .does (read ws) o) (r .makes (read ws) o)) (sym e)
+    (played-refused ws 6 (unknown .asks (read ws) o) (read ws) 0 refl (λ z. omega arith))
 
 pub played-none : (ws : List ℕ) (code : ℕ) (fields : List ℕ) → code ≡ 0 → PlayedBy ws ws (Refused 6) code fields
 unfolding rules refusal test
 played-none ws code fields e = rw e (played-refused ws 6 _ _ _ refl (λ z. omega arith))
 
--- what a match on a code leaves
-pub no-maker : (n : ℕ) → n < 5 → (n ≡ 1 → ⊥) → (n ≡ 2 → ⊥) → (n ≡ 3 → ⊥) → (n ≡ 4 → ⊥) → n ≡ 0
-no-maker n h a b c d = omega arith
-
-pub last-call : (n : ℕ) → 5 ≤ n → n < 9 → (n ≡ 5 → ⊥) → (n ≡ 6 → ⊥) → (n ≡ 7 → ⊥) → n ≡ 8
-last-call n l h a b c = omega arith
-
-pub no-move : (n : ℕ) → 9 ≤ n → (n ≡ 9 → ⊥) → (n ≡ 10 → ⊥) → (n ≡ 11 → ⊥) → (n ≡ 12 → ⊥) → 13 ≤ n
-no-move n l a b c d = omega arith
-
 -- from the operation's checks and effect to one step of a sound session
-pub replied : (before after : List ℕ) (r : Answer) (op : Operation) → holds (sound (read before)) → PlayedBy before after r (op .code) (op .fields)
+pub replied : (before after : List ℕ) (r : Answer) (op : Operation) → holds (sound (read before))
+    → PlayedBy before after r (op .code) (op .fields)
     → Replied before after r (step (read before) op)
 unfolding replyBy answer after outcome
 replied before after r op h p = rw (step-sound (read before) op h) p
@@ -107,20 +101,26 @@ replied before after r op h p = rw (step-sound (read before) op h) p
 pub answered-short : (ws : List ℕ) (op : Operation) → length ws < words → Answered ws ws op (Refused 1)
 answered-short ws op h = rw (lt-leb words (length ws) h) (refl, refl)
 
-pub answered-unsound : (ws : List ℕ) (op : Operation) → words ≤ length ws → (holds (sound (read ws)) → ⊥) → Answered ws ws op (Refused 2)
+pub answered-unsound : (ws : List ℕ) (op : Operation) → words ≤ length ws → (holds (sound (read ws)) → ⊥)
+    → Answered ws ws op (Refused 2)
 unfolding answerOf test
 answered-unsound ws op h n =
-    rw (le-leb words (length ws) h, step-unsound (read ws) op n) (record { answer = refl; leaves = wrote-none ws; stays = λ _. refl })
+    rw (le-leb words (length ws) h, step-unsound (read ws) op n)
+    (record { answer = refl; leaves = wrote-none ws; stays = λ _. refl })
 
-pub answered-sound : (before after : List ℕ) (op : Operation) (r : Answer) → words ≤ length before → Replied before after r (step (read before) op)
+pub answered-sound : (before after : List ℕ) (op : Operation) (r : Answer) → words ≤ length before
+    → Replied before after r (step (read before) op)
     → Answered before after op r
 answered-sound before after op r h p = rw (le-leb words (length before) h) p
 
 -- the answer's two numbers are those of `step`
 pub numbers : {before after : List ℕ} {r : Answer} (s : Session) (op : Operation) → Replied before after r (step s op)
     → (refusedOf r ≡ step s op .refused) × (madeOf r ≡ step s op .made)
-numbers s op p =
-    (ap refusedOf (p .answer) ∙ refused-told (step s op), ap madeOf (p .answer) ∙ made-told (step s op) (refusal-makes-nothing s op))
+numbers s op p = (
+  ap refusedOf (p .answer) ∙ refused-told (step s op),
+  ap madeOf (p .answer) ∙ made-told (step s op)
+      (refusal-makes-nothing s op),
+)
 
 pub memory-sound : (ws : List ℕ) → words ≤ length ws → soundMemory ws ≡ true → holds (sound (read ws))
 memory-sound ws h e = passed (sound (read ws)) (sym (memory-tested ws h) ∙ e)

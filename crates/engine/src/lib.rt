@@ -34,7 +34,7 @@ pub fn apply_sound(memory: &mut [u64], op: Operation) -> Answer
 pub fn apply(memory: &mut [u64], op: Operation) -> Answer
     ensures { λ r. ⌜ Answered (now (memory .entry)) (now (memory .exit)) op r ⌝ }
 {
-    if memory.len() < session::names::WORDS {
+    if memory.len() < session::WORDS {
         return Answer::Refused(refusals::NO_ROOM);
     }
     if !sound::is_sound(memory) {

@@ -21,7 +21,7 @@ pub fn template(s: &mut [u64], caller: u64, n: u64) -> Answer
     if refused != 0 {
         return Answer::Refused(refused);
     }
-    Answer::Accepted(effects::operations::run_template(s, caller, n))
+    Answer::Accepted(effects::template(s, caller, n))
 }
 
 pub fn task(s: &mut [u64], caller: u64, tm: u64, n: u64, finish: u64, out: u64) -> Answer
@@ -34,7 +34,7 @@ pub fn task(s: &mut [u64], caller: u64, tm: u64, n: u64, finish: u64, out: u64) 
     if refused != 0 {
         return Answer::Refused(refused);
     }
-    Answer::Accepted(effects::operations::run_task(s, caller, tm, n, finish, out))
+    Answer::Accepted(effects::task(s, caller, tm, n, finish, out))
 }
 
 pub fn event(s: &mut [u64], caller: u64, ty: u64) -> Answer
@@ -47,7 +47,7 @@ pub fn event(s: &mut [u64], caller: u64, ty: u64) -> Answer
     if refused != 0 {
         return Answer::Refused(refused);
     }
-    Answer::Accepted(effects::operations::run_event(s, caller, ty))
+    Answer::Accepted(effects::event(s, caller, ty))
 }
 
 pub fn block(s: &mut [u64], caller: u64, hold: u64) -> Answer
@@ -60,7 +60,7 @@ pub fn block(s: &mut [u64], caller: u64, hold: u64) -> Answer
     if refused != 0 {
         return Answer::Refused(refused);
     }
-    Answer::Accepted(effects::operations::run_block(s, caller, hold))
+    Answer::Accepted(effects::block(s, caller, hold))
 }
 
 pub fn dependence(s: &mut [u64], caller: u64, source: u64, d: u64, j: u64, mode: u64) -> Answer
@@ -73,7 +73,7 @@ pub fn dependence(s: &mut [u64], caller: u64, source: u64, d: u64, j: u64, mode:
     if refused != 0 {
         return Answer::Refused(refused);
     }
-    Answer::Accepted(effects::operations::run_dependence(s, caller, source, d, j, mode))
+    Answer::Accepted(effects::dependence(s, caller, source, d, j, mode))
 }
 
 pub fn satisfy(s: &mut [u64], caller: u64, e: u64, b: u64, j: u64) -> Answer
@@ -86,7 +86,7 @@ pub fn satisfy(s: &mut [u64], caller: u64, e: u64, b: u64, j: u64) -> Answer
     if refused != 0 {
         return Answer::Refused(refused);
     }
-    effects::operations::run_satisfy(s, caller, e, b, j);
+    effects::satisfy(s, caller, e, b, j);
     Answer::Accepted(0)
 }
 
@@ -100,7 +100,7 @@ pub fn release(s: &mut [u64], caller: u64, b: u64) -> Answer
     if refused != 0 {
         return Answer::Refused(refused);
     }
-    holding::operations::release(s, caller, b);
+    holding::release(s, caller, b);
     Answer::Accepted(0)
 }
 
@@ -114,7 +114,7 @@ pub fn destroy(s: &mut [u64], caller: u64, h: u64) -> Answer
     if refused != 0 {
         return Answer::Refused(refused);
     }
-    holding::operations::destroy(s, caller, h);
+    retiring::destroy(s, caller, h);
     Answer::Accepted(0)
 }
 
@@ -128,7 +128,7 @@ pub fn deliver(s: &mut [u64], l: u64) -> Answer
     if refused != 0 {
         return Answer::Refused(refused);
     }
-    effects::operations::run_deliver(s, l);
+    effects::deliver(s, l);
     Answer::Accepted(0)
 }
 
@@ -142,11 +142,11 @@ pub fn grant(s: &mut [u64], t: u64) -> Answer
     if refused != 0 {
         return Answer::Refused(refused);
     }
-    holding::operations::grant(s, t);
+    holding::grant(s, t);
     Answer::Accepted(0)
 }
 
-pub fn start_task(s: &mut [u64], t: u64) -> Answer
+pub fn start(s: &mut [u64], t: u64) -> Answer
     requires { ⌜ (words ≤ length (now s)) × holds (sound (read (now s))) ⌝ }
     ensures { λ r. ⌜
         Played (now (s .entry)) (now (s .exit)) r (startChecks (read (now (s .entry))) t) (effect.start (read (now (s .entry))) t) (0)
@@ -156,11 +156,11 @@ pub fn start_task(s: &mut [u64], t: u64) -> Answer
     if refused != 0 {
         return Answer::Refused(refused);
     }
-    holding::operations::start(s, t);
+    holding::start(s, t);
     Answer::Accepted(0)
 }
 
-pub fn end_task(s: &mut [u64], t: u64, b: u64) -> Answer
+pub fn end(s: &mut [u64], t: u64, b: u64) -> Answer
     requires { ⌜ (words ≤ length (now s)) × holds (sound (read (now s))) ⌝ }
     ensures { λ r. ⌜
         Played (now (s .entry)) (now (s .exit)) r (endChecks (read (now (s .entry))) t b) (effect.end (read (now (s .entry))) t b) (0)
@@ -170,7 +170,7 @@ pub fn end_task(s: &mut [u64], t: u64, b: u64) -> Answer
     if refused != 0 {
         return Answer::Refused(refused);
     }
-    holding::operations::end(s, t, b);
+    retiring::end(s, t, b);
     Answer::Accepted(0)
 }
 
@@ -209,8 +209,8 @@ pub fn move_on(s: &mut [u64], code: u64, f: [u64; 5]) -> Answer
     match code {
         9 => deliver(s, f[0]),
         10 => grant(s, f[0]),
-        11 => start_task(s, f[0]),
-        12 => end_task(s, f[0], f[1]),
+        11 => start(s, f[0]),
+        12 => end(s, f[0], f[1]),
         _ => Answer::Refused(refusals::UNKNOWN_CODE),
     }
 }

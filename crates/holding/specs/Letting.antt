@@ -1,23 +1,22 @@
 -- Letting go of holds: the slots of one task, the blocks that it made, and then the doomed blocks that nobody holds.
-use Prim.Native.Nat.{ℕ, _+_, _*_, _/_, _%_, _≤_, _<_}
-use mathlib.Core.Path.{_≡_, refl, sym, ap, _∙_, subst}
+use Prim.Native.Nat.{ℕ, _+_, _*_, _/_, _≤_, _<_}
+use mathlib.Core.Path.{_≡_, refl, sym, ap, _∙_}
 use mathlib.Core.Logic.{_⊎_, inl, inr}
 use native.Mathlib.Omega.{arith}
 use Rattle.session.specs.Table.{Session, put, change, sweep}
 use Rattle.session.specs.TableLaws.{sweep-change, sweep-more, sweep-past}
 use Rattle.session.specs.declared.Field.{Field}
-use Rattle.session.specs.declared.Field.the-variants.{Objects, TaskState, BlockState, BlockCreator, BlockHeld, SlotMark, SlotPayload}
-use Rattle.session.specs.Names.{granted, running, held, satisfied, doomed, blockDestroyed}
-use Rattle.rules.specs.Formula.{Formula, holds, choose, not, Formula._≐_, Formula._and_, Formula._or_, Formula.some}
-use Rattle.rules.specs.FormulaLaws.{Case, decide, choose-yes, choose-no, Case.it-does, Case.it-does-not}
-use Rattle.rules.specs.Reading.{at, isHeld, slotHolds}
+use Rattle.session.specs.declared.Field.the-variants.{Objects, BlockState, BlockCreator, BlockHeld, SlotMark, SlotPayload}
+use Rattle.session.specs.Names.{held, satisfied, doomed, blockDestroyed, mostObjects}
+use Rattle.rules.specs.Formula.{Formula, holds, choose, not, Formula._≐_, Formula._and_, Formula._or_}
+use Rattle.rules.specs.FormulaLaws.{Case, decide, choose-yes, choose-no, choose-same, Case.it-does, Case.it-does-not}
+use Rattle.rules.specs.Reading.{at, isHeld}
 use Rattle.rules.specs.Effects.{letGo, buryDoomed, release}
 use Rattle.laws.specs.Places.{put-there}
-use Rattle.laws.specs.SlotPlaces.{place-split, place-low, place-owner, place-below}
 use Rattle.laws.specs.LettingGo.{was-held}
-use Rattle.ancestors.specs.Above.{choose-same}
+use Rattle.reading.specs.Holds.{Active}
 use Rattle.effects.specs.Puts.{put-same}
-use Rattle.holding.specs.Rows.{row, rows, own-end, change-same, change-at}
+use Rattle.holding.specs.SweepRows.{row, rows, own-end, change-same, change-at}
 
 -- the blocks to let go of: one, or all of them where it is 0
 abbrev pub wanted : ℕ → ℕ → Formula
@@ -38,11 +37,14 @@ slotsLetGo s t b = change s SlotMark (rows (markRow t b) s)
 pub markRow-own : (t b j : ℕ) (r : Field → ℕ) → j < 16 → markAfter (r SlotMark) (r SlotPayload) b ≡ markRow t b (t * 16 + j) r
 unfolding markAfter markRow
 markRow-own t b j r h =
-    choose-same (r SlotMark ≐ held and wanted b (r SlotPayload)) (((t * 16 + j) / 16 ≐ t) and (r SlotMark ≐ held) and wanted b (r SlotPayload)) satisfied (r SlotMark) (λ x. (omega arith, x)) (λ x. x .1)
+    choose-same (r SlotMark ≐ held and wanted b (r SlotPayload))
+    (((t * 16 + j) / 16 ≐ t) and (r SlotMark ≐ held) and wanted b (r SlotPayload)) satisfied (r SlotMark) (λ x. (omega arith, x))
+    (λ x. x .1)
 
 pub markRow-other : (s : Session) (t b i : ℕ) → (i / 16 ≡ t → ⊥) → markRow t b i (row s i) ≡ s SlotMark i
 unfolding markRow
-markRow-other s t b i n = choose-no ((i / 16 ≐ t) and (s SlotMark i ≐ held) and wanted b (s SlotPayload i)) satisfied (s SlotMark i) (λ x. n (x .0))
+markRow-other s t b i n =
+    choose-no ((i / 16 ≐ t) and (s SlotMark i ≐ held) and wanted b (s SlotPayload i)) satisfied (s SlotMark i) (λ x. n (x .0))
 
 pub slots-end : (s : Session) (t b j : ℕ) → j ≡ 16 → sweep s SlotMark (t * 16 + j) (rows (markRow t b) s) ≡ slotsLetGo s t b
 unfolding slotsLetGo
@@ -61,9 +63,12 @@ Unheld s = (b : ℕ) → s Objects 0 < b → s BlockHeld b ≡ 0
 
 pub made-end : (s : Session) (t n : ℕ) → Unheld s → n ≡ s Objects 0 + 1 → sweep s BlockHeld n (rows (madeRow t) s) ≡ madeLetGo s t
 unfolding madeLetGo madeRow
-made-end s t n u e = rw e (sweep-change s BlockHeld (s Objects 0 + 1) (rows (madeRow t) s) (λ b l. go b (u b (omega arith)) (decide (s BlockCreator b ≐ t))))
+made-end s t n u e =
+    rw e (sweep-change s BlockHeld (s Objects 0 + 1) (rows (madeRow t) s)
+    (λ b l. go b (u b (omega arith)) (decide (s BlockCreator b ≐ t))))
   where
-    go : (b : ℕ) → s BlockHeld b ≡ 0 → Case (s BlockCreator b ≐ t) → choose (s BlockCreator b ≐ t) 0 (s BlockHeld b) ≡ s BlockHeld b
+    go : (b : ℕ) → s BlockHeld b ≡ 0 → Case (s BlockCreator b ≐ t)
+        → choose (s BlockCreator b ≐ t) 0 (s BlockHeld b) ≡ s BlockHeld b
     go b z (it-does x) = choose-yes (s BlockCreator b ≐ t) 0 (s BlockHeld b) x ∙ sym z
     go b z (it-does-not n) = choose-no (s BlockCreator b ≐ t) 0 (s BlockHeld b) n
 
@@ -74,17 +79,22 @@ buried s b = choose (s BlockState b ≐ doomed and not (isHeld s b)) blockDestro
 abbrev pub Unmarked : Session → Type 0
 Unmarked s = (b : ℕ) → s Objects 0 < b → s BlockState b ≡ 0
 
-pub buried-more : (s r : Session) (n : ℕ) → r ≡ sweep s BlockState n (buried s) → put r BlockState n (buried r n) ≡ sweep s BlockState (n + 1) (buried s)
+pub buried-more : (s r : Session) (n : ℕ) → r ≡ sweep s BlockState n (buried s)
+    → put r BlockState n (buried r n) ≡ sweep s BlockState (n + 1) (buried s)
 unfolding buried sweep
 buried-more s r n p =
-    let e : buried r n ≡ buried s n = ap (λ (x : Session). buried x n) p ∙ ap (λ (v : ℕ). choose (v ≐ doomed and not (isHeld s n)) blockDestroyed v) (sweep-past s BlockState n (buried s) BlockState n (omega arith)) in
+    let e : buried r n ≡ buried s n = ap (λ (x : Session). buried x n) p ∙ ap
+    (λ (v : ℕ). choose (v ≐ doomed and not (isHeld s n)) blockDestroyed v)
+    (sweep-past s BlockState n (buried s) BlockState n (omega arith)) in
     rw (e, p) (sweep-more s BlockState n (buried s))
 
 pub buried-end : (s : Session) (n : ℕ) → Unmarked s → n ≡ s Objects 0 + 1 → sweep s BlockState n (buried s) ≡ buryDoomed s
 unfolding buried buryDoomed
 buried-end s n u e =
     rw e
-    (sweep-change s BlockState (s Objects 0 + 1) (buried s) (λ b l. choose-no (s BlockState b ≐ doomed and not (isHeld s b)) blockDestroyed (s BlockState b) (λ x. let z = u b (omega arith) in let d = x .0 in omega arith)))
+    (sweep-change s BlockState (s Objects 0 + 1) (buried s)
+    (λ b l. choose-no (s BlockState b ≐ doomed and not (isHeld s b)) blockDestroyed (s BlockState b)
+    (λ x. let z = u b (omega arith) in let d = x .0 in omega arith)))
 
 -- letting go of everything: the three in a row
 pub letGo-all : (s : Session) (t : ℕ) → letGo s t (λ k. 0 ≐ 0) ≡ buryDoomed (madeLetGo (slotsLetGo s t 0) t)
@@ -92,8 +102,12 @@ unfolding letGo slotsLetGo madeLetGo markRow madeRow change
 letGo-all s t =
     ap buryDoomed
     (ap (λ (x : Session). change x BlockHeld (λ b. choose (s BlockCreator b ≐ t and 0 ≐ 0) 0 (s BlockHeld b)))
-    (change-same s SlotMark _ _ (λ i. choose-same ((i / 16 ≐ t) and (s SlotMark i ≐ held) and 0 ≐ 0) ((i / 16 ≐ t) and (s SlotMark i ≐ held) and wanted 0 (s SlotPayload i)) satisfied (s SlotMark i) (λ x. (x .0, (x .1 .0, inl refl))) (λ x. (x .0, (x .1 .0, refl)))))
-    ∙ change-same _ BlockHeld _ _ (λ b. choose-same (s BlockCreator b ≐ t and 0 ≐ 0) (s BlockCreator b ≐ t) 0 (s BlockHeld b) (λ x. x .0) (λ x. (x, refl))))
+    (change-same s SlotMark _ _
+    (λ i. choose-same ((i / 16 ≐ t) and (s SlotMark i ≐ held) and 0 ≐ 0)
+    ((i / 16 ≐ t) and (s SlotMark i ≐ held) and wanted 0 (s SlotPayload i)) satisfied (s SlotMark i)
+    (λ x. (x .0, (x .1 .0, inl refl))) (λ x. (x .0, (x .1 .0, refl)))))
+    ∙ change-same _ BlockHeld _ _
+    (λ b. choose-same (s BlockCreator b ≐ t and 0 ≐ 0) (s BlockCreator b ≐ t) 0 (s BlockHeld b) (λ x. x .0) (λ x. (x, refl))))
 
 -- one block that t made, or did not
 pub made-yes : (s : Session) (t b : ℕ) → s BlockCreator b ≡ t → madeRow t b (row s b) ≡ 0
@@ -109,10 +123,12 @@ pub bury-yes : (s : Session) (b : ℕ) → s BlockState b ≡ doomed → (holds 
 unfolding buried
 bury-yes s b e n = choose-yes (s BlockState b ≐ doomed and not (isHeld s b)) blockDestroyed (s BlockState b) (e, n)
 
-pub bury-no : (s : Session) (b : ℕ) → ((s BlockState b ≡ doomed) × (holds (isHeld s b) → ⊥) → ⊥) → put s BlockState b (buried s b) ≡ s
+pub bury-no : (s : Session) (b : ℕ) → ((s BlockState b ≡ doomed) × (holds (isHeld s b) → ⊥) → ⊥)
+    → put s BlockState b (buried s b) ≡ s
 unfolding buried
 bury-no s b n =
-    ap (put s BlockState b) (choose-no (s BlockState b ≐ doomed and not (isHeld s b)) blockDestroyed (s BlockState b) n) ∙ put-same s BlockState b
+    ap (put s BlockState b) (choose-no (s BlockState b ≐ doomed and not (isHeld s b)) blockDestroyed (s BlockState b) n)
+    ∙ put-same s BlockState b
 
 -- doomed blocks are held
 abbrev pub Doomed : Session → Type 0
@@ -127,10 +143,13 @@ unfolding slotsLetGo put change
 one-beside s t b j = refl
 
 module _ (s : Session) (t b : ℕ) (p : 1 ≤ b) where
-  one-slots : slotsLetGo s t b ≡ change s SlotMark (λ i. choose ((i / 16 ≐ t) and (s SlotMark i ≐ held) and s SlotPayload i ≐ b) satisfied (s SlotMark i))
+  one-slots : slotsLetGo s t b
+      ≡ change s SlotMark (λ i. choose ((i / 16 ≐ t) and (s SlotMark i ≐ held) and s SlotPayload i ≐ b) satisfied (s SlotMark i))
   unfolding slotsLetGo markRow
   one-slots =
-      change-same s SlotMark _ _ (λ i. choose-same ((i / 16 ≐ t) and (s SlotMark i ≐ held) and wanted b (s SlotPayload i)) ((i / 16 ≐ t) and (s SlotMark i ≐ held) and s SlotPayload i ≐ b) satisfied (s SlotMark i)
+      change-same s SlotMark _ _
+      (λ i. choose-same ((i / 16 ≐ t) and (s SlotMark i ≐ held) and wanted b (s SlotPayload i))
+      ((i / 16 ≐ t) and (s SlotMark i ≐ held) and s SlotPayload i ≐ b) satisfied (s SlotMark i)
       (λ x. (x .0, (x .1 .0, only (x .1 .1))))
       (λ x. (x .0, (x .1 .0, inr (x .1 .1)))))
     where
@@ -141,14 +160,17 @@ module _ (s : Session) (t b : ℕ) (p : 1 ≤ b) where
   one-made : change (slotsLetGo s t b) BlockHeld (λ k. choose (s BlockCreator k ≐ t and k ≐ b) 0 (s BlockHeld k)) ≡ oneLetGo s t b
   unfolding slotsLetGo markRow madeRow change
   one-made =
-      change-at (slotsLetGo s t b) BlockHeld b (choose (s BlockCreator b ≐ t) 0 (s BlockHeld b)) (λ k. choose (s BlockCreator k ≐ t and k ≐ b) 0 (s BlockHeld k))
+      change-at (slotsLetGo s t b) BlockHeld b (choose (s BlockCreator b ≐ t) 0 (s BlockHeld b))
+      (λ k. choose (s BlockCreator k ≐ t and k ≐ b) 0 (s BlockHeld k))
       (choose-same (s BlockCreator b ≐ t and b ≐ b) (s BlockCreator b ≐ t) 0 (s BlockHeld b) (λ x. x .0) (λ x. (x, refl)))
       (λ j n. choose-no (s BlockCreator j ≐ t and j ≐ b) 0 (s BlockHeld j) (λ x. n (x .1)))
 
   -- a hold of another block lasts
   mark-lasts : (i k : ℕ) → (k ≡ b → ⊥) → s SlotMark i ≡ held → s SlotPayload i ≡ k → slotsLetGo s t b SlotMark i ≡ held
   unfolding slotsLetGo markRow change
-  mark-lasts i k n e q = choose-no ((i / 16 ≐ t) and (s SlotMark i ≐ held) and wanted b (s SlotPayload i)) satisfied (s SlotMark i) (λ x. other (x .1 .1)) ∙ e
+  mark-lasts i k n e q =
+      choose-no ((i / 16 ≐ t) and (s SlotMark i ≐ held) and wanted b (s SlotPayload i)) satisfied (s SlotMark i)
+      (λ x. other (x .1 .1)) ∙ e
     where
       other : (b ≡ 0) ⊎ (s SlotPayload i ≡ b) → ⊥
       other (inl z) = omega arith
@@ -157,13 +179,15 @@ module _ (s : Session) (t b : ℕ) (p : 1 ≤ b) where
   held-lasts : (k : ℕ) → (k ≡ b → ⊥) → holds (isHeld s k) → holds (isHeld (oneLetGo s t b) k)
   unfolding slotsLetGo markRow change put
   held-lasts k n (inl x) = inl (x .0, x .1, (mark-lasts (x .0) k n (x .2 .0) (x .2 .1), x .2 .1))
-  held-lasts k n (inr e) = inr (put-there (slotsLetGo s t b) BlockHeld b k (madeRow t b (row (slotsLetGo s t b) b)) (λ q. n (sym q)) ∙ e)
+  held-lasts k n (inr e) =
+      inr (put-there (slotsLetGo s t b) BlockHeld b k (madeRow t b (row (slotsLetGo s t b) b)) (λ q. n (sym q)) ∙ e)
 
   one-buried : Doomed s → buryDoomed (oneLetGo s t b) ≡ put (oneLetGo s t b) BlockState b (buried (oneLetGo s t b) b)
   unfolding buryDoomed buried
   one-buried d =
       change-at (oneLetGo s t b) BlockState b (buried (oneLetGo s t b) b) (buried (oneLetGo s t b)) refl
-      (λ j n. choose-no (oneLetGo s t b BlockState j ≐ doomed and not (isHeld (oneLetGo s t b) j)) blockDestroyed (oneLetGo s t b BlockState j) (λ x. x .1 (held-lasts j n (d j (as-was j (x .0))))))
+      (λ j n. choose-no (oneLetGo s t b BlockState j ≐ doomed and not (isHeld (oneLetGo s t b) j)) blockDestroyed
+      (oneLetGo s t b BlockState j) (λ x. x .1 (held-lasts j n (d j (as-was j (x .0))))))
     where
       as-was : (j : ℕ) → oneLetGo s t b BlockState j ≡ doomed → s BlockState j ≡ doomed
       as-was j e = sym (one-beside s t b j) ∙ e
@@ -172,24 +196,23 @@ module _ (s : Session) (t b : ℕ) (p : 1 ≤ b) where
   unfolding letGo
   letGo-one d =
       sym (one-buried d)
-      ∙ ap buryDoomed (sym one-made ∙ ap (λ (x : Session). change x BlockHeld (λ k. choose (s BlockCreator k ≐ t and k ≐ b) 0 (s BlockHeld k))) one-slots)
+      ∙ ap buryDoomed (sym one-made ∙ ap
+      (λ (x : Session). change x BlockHeld (λ k. choose (s BlockCreator k ≐ t and k ≐ b) 0 (s BlockHeld k))) one-slots)
 
 -- what the next step asks of the one before
-pub after-slots : (s : Session) (t b : ℕ) → s Objects 0 ≤ 512 → Unheld s → (slotsLetGo s t b Objects 0 ≤ 512) × Unheld (slotsLetGo s t b)
+pub after-slots : (s : Session) (t b : ℕ) → s Objects 0 ≤ mostObjects → Unheld s → (slotsLetGo s t b Objects 0 ≤ mostObjects)
+    × Unheld (slotsLetGo s t b)
 unfolding slotsLetGo change
 after-slots s t b f u = (f, u)
 
-pub after-made : (s : Session) (t b : ℕ) → s Objects 0 ≤ 512 → Unmarked s → (madeLetGo (slotsLetGo s t b) t Objects 0 ≤ 512) × Unmarked (madeLetGo (slotsLetGo s t b) t)
+pub after-made : (s : Session) (t b : ℕ) → s Objects 0 ≤ mostObjects → Unmarked s
+    → (madeLetGo (slotsLetGo s t b) t Objects 0 ≤ mostObjects) × Unmarked (madeLetGo (slotsLetGo s t b) t)
 unfolding slotsLetGo madeLetGo change
 after-made s t b f u = (f, u)
 
-pub after-one : (s : Session) (t b : ℕ) → s Objects 0 ≤ 512 → oneLetGo s t b Objects 0 ≤ 512
+pub after-one : (s : Session) (t b : ℕ) → s Objects 0 ≤ mostObjects → oneLetGo s t b Objects 0 ≤ mostObjects
 unfolding slotsLetGo change put
 after-one s t b f = f
-
--- only granted and running tasks hold by their slots
-abbrev pub Active : Session → Type 0
-Active s = (h j : ℕ) → h ≤ s Objects 0 → j < 16 → s SlotMark (at h j) ≡ held → (granted ≤ s TaskState h) × (s TaskState h ≤ running)
 
 slot-was-held : (s : Session) (t b i : ℕ) → slotsLetGo s t b SlotMark i ≡ held → s SlotMark i ≡ held
 unfolding slotsLetGo markRow change
@@ -217,15 +240,3 @@ active-swept s n g a = a
 pub active-release : (s : Session) (t b : ℕ) → Active s → Active (release s t b)
 unfolding release letGo buryDoomed change
 active-release s t b a h j l m e = a h j l m (was-held s t (λ k. k ≐ b) (at h j) e)
-
--- a block is held by a slot of some task, or from its creation
-abbrev pub slotsHold : Session → ℕ → ℕ → Formula
-slotsHold s b h = some 16 (λ j. slotHolds s b (at h j))
-
-pub held-by : (s : Session) (b h : ℕ) → h ≤ s Objects 0 → holds (slotsHold s b h) → holds (isHeld s b)
-held-by s b h l x = inl (at h (x .0), place-below (s Objects 0 + 1) h (x .0) (omega arith) (x .1), x .2)
-
-pub held-by-none : (s : Session) (b n : ℕ) → n ≡ s Objects 0 + 1 → ((h : ℕ) → h < n → holds (slotsHold s b h) → ⊥) → (s BlockHeld b ≡ 1 → ⊥) → holds (isHeld s b) → ⊥
-held-by-none s b n e none made (inl x) =
-    none (x .0 / 16) (rw e (place-owner (s Objects 0 + 1) (x .0) (x .1))) (x .0 % 16, place-low (x .0), subst (λ (i : ℕ). holds (slotHolds s b i)) (place-split (x .0)) (x .2))
-held-by-none s b n e none made (inr y) = made y

@@ -1,9 +1,4 @@
-pub mod Rows
+pub mod SweepRows
 pub mod Letting
-pub mod Granting
-pub mod Cutting
-pub mod Tidy
-pub mod Finish
-pub mod Parts
-pub mod Climb
-pub mod Alone
+pub mod SoundHolds
+pub mod GrantedSlots

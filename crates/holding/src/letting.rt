@@ -4,12 +4,17 @@ use session::names;
 ghost use mathlib.Core.Path.{_≡_};
 ghost use Prim.Native.Nat.{_+_, _*_, _≤_, _<_};
 ghost use lib.ListN.{length};
+ghost use Rattle.session.specs.Names.{mostObjects};
 ghost use Rattle.session.specs.Table.{Wrote, read, put, words};
 ghost use Rattle.session.specs.declared.Field.the-variants.{Objects, BlockHeld, BlockState, SlotMark};
-ghost use Rattle.rules.specs.Formula.{Formula._≐_};
+ghost use Rattle.rules.specs.Formula.{holds, Formula._≐_};
+ghost use Rattle.rules.specs.Sound.{sound};
+ghost use Rattle.rules.specs.Checks.{releaseChecks};
 ghost use Rattle.rules.specs.Effects.{buryDoomed, letGo, release};
-ghost use Rattle.holding.specs.Rows.{row};
-ghost use Rattle.holding.specs.Letting.{markAfter, markRow, slotsLetGo, madeRow, madeLetGo, buried, Unheld, Unmarked, Doomed, Active};
+ghost use Rattle.laws.specs.Met.{met};
+ghost use Rattle.reading.specs.Holds.{Active};
+ghost use Rattle.holding.specs.SweepRows.{row};
+ghost use Rattle.holding.specs.Letting.{markAfter, markRow, slotsLetGo, madeRow, madeLetGo, buried, Unheld, Unmarked, Doomed};
 
 // A slot's mark once its task lets go of block b, or of every block where b is 0.
 fn mark_after(mark: u64, payload: u64, b: u64) -> u64
@@ -29,7 +34,7 @@ fn mark_after(mark: u64, payload: u64, b: u64) -> u64
 
 // Slot j of task t lets go of block b, or of any where b is 0. Internal: callers have shown the length and the slot.
 fn drop_slot(s: &mut [u64], t: u64, b: u64, j: u64)
-    requires { ⌜ (words ≤ length (now s)) × (t ≤ 512) × (j < 16) ⌝ }
+    requires { ⌜ (words ≤ length (now s)) × (t ≤ mostObjects) × (j < 16) ⌝ }
     ensures { λ r. ⌜
         Wrote (now (s .entry)) (now (s .exit)) (put (read (now (s .entry))) SlotMark (t * 16 + j) (markRow t b (t * 16 + j) (row (read (now (s .entry))) (t * 16 + j))))
         ⌝ }
@@ -42,7 +47,7 @@ fn drop_slot(s: &mut [u64], t: u64, b: u64, j: u64)
 
 // The slots of task t let go of block b, or of all where b is 0. Internal, as `drop_slot` is.
 fn drop_slots(s: &mut [u64], t: u64, b: u64)
-    requires { ⌜ (words ≤ length (now s)) × (t ≤ 512) ⌝ }
+    requires { ⌜ (words ≤ length (now s)) × (t ≤ mostObjects) ⌝ }
     ensures { λ r. ⌜ Wrote (now (s .entry)) (now (s .exit)) (slotsLetGo (read (now (s .entry))) t b) ⌝ }
 {
     let mut j: u64 = 0;
@@ -54,7 +59,7 @@ fn drop_slots(s: &mut [u64], t: u64, b: u64)
 
 // Block b is no longer held from its creation if t made it. Internal: callers have shown the length and the handle.
 fn drop_made(s: &mut [u64], t: u64, b: u64)
-    requires { ⌜ (words ≤ length (now s)) × (b ≤ 512) ⌝ }
+    requires { ⌜ (words ≤ length (now s)) × (b ≤ mostObjects) ⌝ }
     ensures { λ r. ⌜
         Wrote (now (s .entry)) (now (s .exit)) (put (read (now (s .entry))) BlockHeld b (madeRow t b (row (read (now (s .entry))) b)))
         ⌝ }
@@ -68,7 +73,7 @@ fn drop_made(s: &mut [u64], t: u64, b: u64)
 // No block that t made is held from its creation. Internal: callers have shown the length, and that places past the count
 // of objects are empty.
 fn drop_all_made(s: &mut [u64], t: u64)
-    requires { ⌜ (words ≤ length (now s)) × (read (now s) Objects 0 ≤ 512) × Unheld (read (now s)) ⌝ }
+    requires { ⌜ (words ≤ length (now s)) × (read (now s) Objects 0 ≤ mostObjects) × Unheld (read (now s)) ⌝ }
     ensures { λ r. ⌜ Wrote (now (s .entry)) (now (s .exit)) (madeLetGo (read (now (s .entry))) t) ⌝ }
 {
     let n = session::get(s, Field::Objects, 0);
@@ -81,13 +86,13 @@ fn drop_all_made(s: &mut [u64], t: u64)
 
 // Block b is destroyed if it is doomed and nobody holds it. Internal, as `is_held` is.
 fn bury(s: &mut [u64], b: u64)
-    requires { ⌜ (words ≤ length (now s)) × (read (now s) Objects 0 ≤ 512) × (b ≤ 512) × Active (read (now s)) ⌝ }
+    requires { ⌜ (words ≤ length (now s)) × (read (now s) Objects 0 ≤ mostObjects) × (b ≤ mostObjects) × Active (read (now s)) ⌝ }
     ensures { λ r. ⌜
         Wrote (now (s .entry)) (now (s .exit)) (put (read (now (s .entry))) BlockState b (buried (read (now (s .entry))) b))
         ⌝ }
 {
     if session::get(s, Field::BlockState, b as usize) == names::DOOMED {
-        if crate::holds::is_held(s, b) {
+        if reading::is_held(s, b) {
             return;
         }
         session::set(s, Field::BlockState, b as usize, names::BLOCK_DESTROYED);
@@ -96,7 +101,8 @@ fn bury(s: &mut [u64], b: u64)
 
 // Every doomed block that nobody holds is destroyed. Internal, as `drop_all_made` is.
 fn bury_all(s: &mut [u64])
-    requires { ⌜ (words ≤ length (now s)) × (read (now s) Objects 0 ≤ 512) × Unmarked (read (now s)) × Active (read (now s)) ⌝ }
+    requires { ⌜ (words ≤ length (now s)) × (read (now s) Objects 0 ≤ mostObjects) × Unmarked (read (now s))
+        × Active (read (now s)) ⌝ }
     ensures { λ r. ⌜ Wrote (now (s .entry)) (now (s .exit)) (buryDoomed (read (now (s .entry)))) ⌝ }
 {
     let n = session::get(s, Field::Objects, 0);
@@ -110,7 +116,8 @@ fn bury_all(s: &mut [u64])
 // Task t lets go of block b. Internal: callers have shown the length, the handles, that doomed blocks are held, and that only
 // granted and running tasks hold by their slots.
 pub fn let_go_block(s: &mut [u64], t: u64, b: u64)
-    requires { ⌜ (words ≤ length (now s)) × (read (now s) Objects 0 ≤ 512) × (t ≤ 512) × (1 ≤ b) × (b ≤ 512) × Doomed (read (now s)) × Active (read (now s)) ⌝ }
+    requires { ⌜ (words ≤ length (now s)) × (read (now s) Objects 0 ≤ mostObjects) × (t ≤ mostObjects) × (1 ≤ b)
+        × (b ≤ mostObjects) × Doomed (read (now s)) × Active (read (now s)) ⌝ }
     ensures { λ r. ⌜ Wrote (now (s .entry)) (now (s .exit)) (release (read (now (s .entry))) t b) ⌝ }
 {
     drop_slots(s, t, b);
@@ -121,10 +128,20 @@ pub fn let_go_block(s: &mut [u64], t: u64, b: u64)
 // Task t lets go of every block. Internal: callers have shown the length, the handles, and that places past the count of
 // objects are empty.
 pub fn let_go_all(s: &mut [u64], t: u64)
-    requires { ⌜ (words ≤ length (now s)) × (read (now s) Objects 0 ≤ 512) × (t ≤ 512) × Unheld (read (now s)) × Unmarked (read (now s)) × Active (read (now s)) ⌝ }
+    requires { ⌜ (words ≤ length (now s)) × (read (now s) Objects 0 ≤ mostObjects) × (t ≤ mostObjects) × Unheld (read (now s))
+        × Unmarked (read (now s)) × Active (read (now s)) ⌝ }
     ensures { λ r. ⌜ Wrote (now (s .entry)) (now (s .exit)) (letGo (read (now (s .entry))) t (λ k. 0 ≐ 0)) ⌝ }
 {
     drop_slots(s, t, 0);
     drop_all_made(s, t);
     bury_all(s);
+}
+
+// 7 release (caller, block): all the caller's holds of it end. Internal: callers have shown the length, a sound session and the
+// checks.
+pub fn release(s: &mut [u64], caller: u64, b: u64)
+    requires { ⌜ (words ≤ length (now s)) × holds (sound (read (now s))) × met (releaseChecks (read (now s)) caller b) ⌝ }
+    ensures { λ r. ⌜ Wrote (now (s .entry)) (now (s .exit)) (release (read (now (s .entry))) caller b) ⌝ }
+{
+    let_go_block(s, caller, b);
 }

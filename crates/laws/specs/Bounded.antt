@@ -8,21 +8,24 @@ use Rattle.session.specs.Table.{Session}
 use Rattle.session.specs.declared.Field.the-variants.{Objects, Links, LinkState}
 use Rattle.session.specs.Names.{resolved, granted, running, delivered}
 use Rattle.rules.specs.declared.Operation.{Operation}
-use Rattle.rules.specs.Formula.{holds}
+use Rattle.rules.specs.Formula.{holds, Formula._≐_}
 use Rattle.rules.specs.FormulaLaws.{choose-yes, choose-no}
 use Rattle.rules.specs.Reading.{isUndelivered, undeliveredLinks}
 use Rattle.rules.specs.Sound.{kept}
 use Rattle.rules.specs.Step.{step}
 use Rattle.rules.specs.Demand.{accepted, next, acceptedOf, AllMove, AllMove.none, AllMove.one}
 use Rattle.rules.specs.Book.{Book, live, liveTasks, undelivered as unstruck, undeliveredLinks as unstruckLinks}
-use Rattle.laws.specs.Kept.{rest-of}
-use Rattle.laws.specs.Cases.{Called, called, Called.refused, Called.accepted as was-accepted}
+use Rattle.laws.specs.Rows.Name.{freeLinks}
+use Rattle.laws.specs.ByName.{by-name}
+use Rattle.laws.specs.Conjuncts.{no-link}
+use Rattle.laws.specs.Accepted.{Called, called, Called.refused, Called.accepted as was-accepted}
 use Rattle.laws.specs.StepKeeps.{step-keeps}
 use Rattle.laws.specs.Counting.{count-more}
 use Rattle.laws.specs.Relation.{Related}
+use Rattle.laws.specs.Relation.Clause.{same-objects, same-links, struck-agree}
 use Rattle.laws.specs.Living.{live-here}
 use Rattle.laws.specs.Left.{left, upTo, tasksUpTo}
-use Rattle.laws.specs.Falling.{moves-fall}
+use Rattle.laws.specs.Operations.{moves-fall}
 
 -- of a list of moves at most as many are accepted as steps are left
 pub accepted-left : (s : Session) (more : List Operation) → holds (kept s) → AllMove more → acceptedOf s more ≤ left s
@@ -32,28 +35,31 @@ accepted-left s (o ∷ os) k (one c m) = go (called s o) (accepted-left (step s 
   where
     go : Called s o → acceptedOf (step s o .leaves) os ≤ left (step s o .leaves) → acceptedOf s (o ∷ os) ≤ left s
     go (refused n w e) l = rw (choose-no {A = ℕ} (accepted s o) 1 0 n, e) (let g = rw e at l in omega arith)
-    go (was-accepted h n w e a) l = let f = moves-fall s o k c a in rw (choose-yes {A = ℕ} (accepted s o) 1 0 n, e) (let g = rw e at l in omega arith)
+    go (was-accepted h n w e a) l =
+        let f = moves-fall s o a c k in rw (choose-yes {A = ℕ} (accepted s o) 1 0 n, e) (let g = rw e at l in omega arith)
 
 -- the book has at least as many
 module _ (s : Session) (b : Book) (k : holds (kept s)) (x : Related s b) where
   unstruck-link : (l : ℕ) → l < s Links 0 + 1 → holds (isUndelivered s l) → holds (unstruck b l)
-  unstruck-link zero h u = absurd (none u)
+  unstruck-link zero h u = absurd (none u (no-link s 0 (by-name s k freeLinks .0) .no-state))
     where
-      none : holds (isUndelivered s 0) → ⊥
-      none (inl e) = let z = rest-of s k .unused .0 .1 .1 .1 in omega arith
-      none (inr e) = let z = rest-of s k .unused .0 .1 .1 .1 in omega arith
-  unstruck-link (suc l) h u = (omega arith, x .struck (suc l) (omega arith) (omega arith) .1 (early u))
+      none : holds (isUndelivered s 0) → holds (s LinkState 0 ≐ 0) → ⊥
+      none (inl e) z = omega arith
+      none (inr e) z = omega arith
+  unstruck-link (suc l) h u = (omega arith, x struck-agree (suc l) (omega arith) (omega arith) .1 (early u))
     where
       early : holds (isUndelivered s (suc l)) → delivered ≤ s LinkState (suc l) → ⊥
       early (inl e) d = omega arith
       early (inr e) d = omega arith
 
   live-more : (v : ℕ) → v ≤ running → tasksUpTo s v ≤ liveTasks b
-  live-more v h = rw (x .shape .objects) (count-more (s Objects 0 + 1) (upTo s v) (live b) (λ t l u. live-here s b k x t (let low = u .1 in (u .0, omega arith))))
+  live-more v h =
+      rw (x same-objects)
+      (count-more (s Objects 0 + 1) (upTo s v) (live b) (λ t l u. live-here s b k x t (let low = u .1 in (u .0, omega arith))))
 
   links-more : undeliveredLinks s ≤ unstruckLinks b
   unfolding undeliveredLinks
-  links-more = rw (x .shape .links) (count-more (s Links 0 + 1) (isUndelivered s) (unstruck b) unstruck-link)
+  links-more = rw (x same-links) (count-more (s Links 0 + 1) (isUndelivered s) (unstruck b) unstruck-link)
 
   pub left-bounded : left s ≤ unstruckLinks b + 3 * liveTasks b
   unfolding left

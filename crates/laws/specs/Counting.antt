@@ -45,7 +45,8 @@ count-more (suc n) f g h = go (decide (f n)) (decide (g n)) (count-more n f g (�
     go (it-does-not x) (it-does y) l = rw (count-no n f x, count-yes n g y) (omega arith)
     go (it-does-not x) (it-does-not y) l = rw (count-no n f x, count-no n g y) l
 
-pub count-same : (n : ℕ) (f g : ℕ → Formula) → ((i : ℕ) → i < n → holds (f i) → holds (g i)) → ((i : ℕ) → i < n → holds (g i) → holds (f i)) → count n f ≡ count n g
+pub count-same : (n : ℕ) (f g : ℕ → Formula) → ((i : ℕ) → i < n → holds (f i) → holds (g i))
+    → ((i : ℕ) → i < n → holds (g i) → holds (f i)) → count n f ≡ count n g
 count-same n f g to from =
     let a : count n f ≤ count n g = count-more n f g to in
     let b : count n g ≤ count n f = count-more n g f from in
@@ -65,5 +66,10 @@ count-one (suc n) f g k l out has to from =
 
     go : Places k n → (k < n → count n g ≡ 1 + count n f) → count (suc n) g ≡ 1 + count (suc n) f
     go (one e) r =
-        rw (count-yes n g (rw e at has), count-no n f (rw e at out), count-same n f g (λ i b. to i (omega arith) (λ q. omega arith)) (λ i b. from i (omega arith) (λ q. omega arith)))
+        rw (
+          count-yes n g (rw e at has),
+          count-no n f (rw e at out),
+          count-same n f g
+              (λ i b. to i (omega arith) (λ q. omega arith)) (λ i b. from i (omega arith) (λ q. omega arith)),
+        )
     go (two ne) r = other ne (decide (f n)) (r (omega arith))

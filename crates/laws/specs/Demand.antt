@@ -4,7 +4,6 @@ use Rattle.rules.specs.declared.Operation.{Operation}
 use Rattle.rules.specs.Demand.{Demand3, sessionAfter, bookAfter}
 use Rattle.laws.specs.Runs.{always-kept}
 use Rattle.laws.specs.RelatedRuns.{always-related}
-use Rattle.laws.specs.Tidy.{tidy-after}
 use Rattle.laws.specs.StartsOnce.{starts-once, starts-ready}
 use Rattle.laws.specs.FiresFirst.{finish-fires}
 use Rattle.laws.specs.Bounded.{moves-bounded}
@@ -17,5 +16,5 @@ demand-3 ops =
       starts-ready = λ before rest o e. starts-ready before o;
       finish-fires = λ before rest o e. finish-fires before o;
       bounded = moves-bounded (sessionAfter ops) (bookAfter ops) (always-kept ops) (always-related ops);
-      stuck = λ none. live-lacks (sessionAfter ops) (always-kept ops) none (bookAfter ops) (always-related ops) (tidy-after ops);
+      stuck = λ none. live-lacks (sessionAfter ops) (always-kept ops) none (bookAfter ops) (always-related ops);
     }

@@ -1,20 +1,26 @@
 -- The destroying of a block keeps a session: the caller lets go of it, and then it is doomed where somebody still holds
--- it and destroyed where nobody does.
-use Prim.Native.Nat.{ℕ}
+-- it and destroyed where nobody does. The second step writes one field, which two of the rules read.
+use Prim.Native.Nat.{ℕ, _≤_}
 use mathlib.Core.Path.{_≡_, refl, sym, subst, _∙_}
-use mathlib.Core.Logic.{inl, inr}
+use mathlib.Core.List.{[], _∷_}
 use native.Mathlib.Omega.{arith}
 use Rattle.session.specs.Table.{Session, put}
 use Rattle.session.specs.declared.Field.the-variants.{Kind, BlockState}
+use Rattle.session.specs.Names.{block, doomed, blockDestroyed}
 use Rattle.rules.specs.Formula.{holds, choose, Formula._≐_}
 use Rattle.rules.specs.FormulaLaws.{Case, decide, choose-yes, choose-no, Case.it-does, Case.it-does-not}
-use Rattle.session.specs.Names.{block, doomed, blockDestroyed}
 use Rattle.rules.specs.Reading.{isHeld, isKind, isRunning}
 use Rattle.rules.specs.Effects.{destroyBlock, release}
-use Rattle.rules.specs.Sound.{kept, objects, blocks, unused, blockPart, outputs}
-use Rattle.laws.specs.Kept.{Rest, rest-of, outputs-of, kept-from}
+use Rattle.rules.specs.Sound.{blockPart}
+use Rattle.laws.specs.Outside.{Outside, outside-same, outside-put}
+use Rattle.laws.specs.Writes.{release-writes}
+use Rattle.laws.specs.Frame.{DueOf, Shown.due}
+use Rattle.laws.specs.Rows.{Name, says}
+use Rattle.laws.specs.Rows.Name.{blockParts, blocks}
+use Rattle.laws.specs.Keeping.{Due, kept-by, Kept}
+use Rattle.laws.specs.Conjuncts.{Block, block-row, block-says, block-lasts, Block.state-low, Block.state-high}
 use Rattle.laws.specs.Places.{Places, places, put-here, put-there, Places.one, Places.two}
-use Rattle.laws.specs.LettingGo.{letGo-keeps, letGo-beside}
+use Rattle.laws.specs.LettingGo.{letGo-keeps}
 
 -- block b, destroyed or, while it is held, doomed
 condemn : Session → ℕ → Session
@@ -32,84 +38,68 @@ after-condemn s b h = go (places b h) (decide (isHeld s b))
     v : ℕ
     v = choose (isHeld s b) doomed blockDestroyed
 
+    IsHeld : ℕ → Type 0
+    IsHeld n = holds (isHeld s n)
+
     go : Places b h → Case (isHeld s b) → After s b h
-    go (one e) (it-does x) = dooms e (subst (λ (n : ℕ). holds (isHeld s n)) e x) (put-here s BlockState b h v e ∙ choose-yes (isHeld s b) doomed blockDestroyed x)
-    go (one e) (it-does-not n) = destroys e (λ x. n (subst (λ (n : ℕ). holds (isHeld s n)) (sym e) x)) (put-here s BlockState b h v e ∙ choose-no (isHeld s b) doomed blockDestroyed n)
+    go (one e) (it-does x) =
+        dooms e (subst IsHeld e x) (put-here s BlockState b h v e ∙ choose-yes (isHeld s b) doomed blockDestroyed x)
+    go (one e) (it-does-not n) =
+        destroys e (λ x. n (subst IsHeld (sym e) x))
+        (put-here s BlockState b h v e ∙ choose-no (isHeld s b) doomed blockDestroyed n)
     go (two n) (it-does x) = same (put-there s BlockState b h v n)
     go (two n) (it-does-not m) = same (put-there s BlockState b h v n)
 
-module _ (s : Session) (b : ℕ) (kind : s Kind b ≡ block) where
+module _ (s : Session) (b : ℕ) (kind : s Kind b ≡ block) (r : Kept s) where
+  writes : Outside s (condemn s b) (BlockState ∷ [])
+  unfolding condemn
+  writes = outside-put b _ (outside-same s)
+
   condemn-blockPart : (h : ℕ) → holds (blockPart s h) → holds (blockPart (condemn s b) h)
   unfolding condemn put
-  condemn-blockPart h x = go x (after-condemn s b h)
+  condemn-blockPart h x = go (after-condemn s b h)
     where
-      go : holds (blockPart s h) → After s b h → holds (blockPart (condemn s b) h)
-      go x (same e) = rw e x
-      go (inl x) (dooms p y e) = rw e (inl (x .0, (omega arith, (omega arith, x .1 .1 .1))))
-      go (inl x) (destroys p n e) = rw e (inl (x .0, (omega arith, (omega arith, x .1 .1 .1))))
-      go (inr x) (dooms p y e) = absurd (x .0 (rw (← p) kind))
-      go (inr x) (destroys p n e) = absurd (x .0 (rw (← p) kind))
+      condemned : b ≡ h → 1 ≤ condemn s b BlockState h → condemn s b BlockState h ≤ blockDestroyed
+          → holds (blockPart (condemn s b) h)
+      condemned p low high = block-lasts h writes (rw (← p) kind) x shows
+        where
+          shows : (n : Block) → DueOf (block-row h) (BlockState ∷ []) n → holds (block-says h n (condemn s b))
+          shows state-low due = low
+          shows state-high due = high
 
-  condemn-objects : holds (objects s) → holds (objects (condemn s b))
-  unfolding condemn put
-  condemn-objects o = (o .0, λ h l. let x = o .1 h l in (x .0, (x .1 .0, (x .1 .1 .0, (x .1 .1 .1 .0, condemn-blockPart h (x .1 .1 .1 .1))))))
+      go : After s b h → holds (blockPart (condemn s b) h)
+      go (same e) = rw e x
+      go (dooms p y e) = condemned p (omega arith) (omega arith)
+      go (destroys p n e) = condemned p (omega arith) (omega arith)
 
-  condemn-unused : holds (unused s) → holds (unused (condemn s b))
+  condemn-blocks : holds (says blocks (condemn s b))
   unfolding condemn put
-  condemn-unused u = (
-    u .0,
-    (
-      (λ h l p.
-          let x = u .1 .0 h l p in
-          (x .0, (x .1 .0, (x .1 .1 .0, (x .1 .1 .1 .0, (condemn-blockPart h (x .1 .1 .1 .1 .0), x .1 .1 .1 .1 .1)))))),
-      u .1 .1,
-    ),
-  )
-
-  condemn-blocks : holds (blocks s) → holds (blocks (condemn s b))
-  unfolding condemn put
-  condemn-blocks o h l k = let x = o h l k in (x .0, ((λ e. lasting (x .1 .0) e (after-condemn s b h)), λ e. gone (x .1 .1) e (after-condemn s b h)))
+  condemn-blocks h l k =
+      let x = r blocks h l k in
+      (x .0, (λ e. lasting (x .1 .0) e (after-condemn s b h), λ e. gone (x .1 .1) e (after-condemn s b h)))
     where
-      lasting : (s BlockState h ≡ doomed → holds (isHeld s h)) → condemn s b BlockState h ≡ doomed → After s b h → holds (isHeld s h)
+      lasting : (s BlockState h ≡ doomed → holds (isHeld s h)) → condemn s b BlockState h ≡ doomed → After s b h
+          → holds (isHeld s h)
       lasting f e (same q) = f (sym q ∙ e)
       lasting f e (dooms p y q) = y
       lasting f e (destroys p n q) = absurd (omega arith)
 
-      gone : (s BlockState h ≡ blockDestroyed → holds (isHeld s h) → ⊥) → condemn s b BlockState h ≡ blockDestroyed → After s b h → holds (isHeld s h) → ⊥
+      gone : (s BlockState h ≡ blockDestroyed → holds (isHeld s h) → ⊥) → condemn s b BlockState h ≡ blockDestroyed → After s b h
+          → holds (isHeld s h) → ⊥
       gone f e (same q) = f (sym q ∙ e)
       gone f e (dooms p y q) = absurd (omega arith)
       gone f e (destroys p n q) = n
 
-  condemn-outputs : holds (outputs s) → holds (outputs (condemn s b))
-  unfolding condemn put
-  condemn-outputs h = h
+  shows : (n : Name) → Due (BlockState ∷ []) [] n → holds (says n (condemn s b))
+  shows blockParts due = λ h l. condemn-blockPart h (r blockParts h l)
+  shows blocks due = condemn-blocks
 
-  condemn-rest : Rest s → Rest (condemn s b)
-  unfolding condemn put
-  condemn-rest r =
-      record {
-        counts = r .counts;
-        objects = condemn-objects (r .objects);
-        roots = r .roots;
-        creators = r .creators;
-        slots = r .slots;
-        links = r .links;
-        oneLink = r .oneLink;
-        states = r .states;
-        blocks = condemn-blocks (r .blocks);
-        compatible = r .compatible;
-        latches = r .latches;
-        dropped = r .dropped;
-        unused = condemn-unused (r .unused);
-        settled = r .settled;
-      }
+  condemn-keeps : Kept (condemn s b)
+  condemn-keeps = kept-by [] writes r shows
 
-  condemn-keeps : holds (kept s) → holds (kept (condemn s b))
-  condemn-keeps k = kept-from (condemn s b) (condemn-rest (rest-of s k)) (condemn-outputs (outputs-of s k))
-
-pub destroyBlock-keeps : (s : Session) (caller b : ℕ) → holds (isRunning s caller) → holds (isKind s block b) → holds (kept s) → holds (kept (destroyBlock s caller b))
+pub destroyBlock-keeps : (s : Session) (caller b : ℕ) → holds (isRunning s caller) → holds (isKind s block b) → Kept s
+    → Kept (destroyBlock s caller b)
 unfolding destroyBlock condemn release
-destroyBlock-keeps s caller b run kind k = condemn-keeps (release s caller b) b released (letGo-keeps s caller (λ h. h ≐ b) run k)
-  where
-    released : release s caller b Kind b ≡ block
-    released = letGo-beside s caller (λ h. h ≐ b) Kind refl refl refl b ∙ kind
+destroyBlock-keeps s caller b run kind r =
+    condemn-keeps (release s caller b) b (rw (release-writes s caller b .as-was Kind refl) kind)
+    (letGo-keeps s caller (λ h. h ≐ b) run r)

@@ -2,29 +2,32 @@
 -- makes waiting tasks resolved and open links ready, and both have as many steps left as before.
 use Prim.Native.Nat.{ℕ, _+_, _≤_}
 use mathlib.Core.Path.{_≡_, refl, ap, sym, _∙_}
-use mathlib.Core.Logic.{_⊎_, inl, inr}
+use mathlib.Core.Logic.{inl, inr}
 use native.Mathlib.Omega.{arith}
 use Rattle.session.specs.Table.{Session, put, change}
-use Rattle.session.specs.declared.Field.the-variants.{Dropped, Kind, TaskState, TaskFinish, TaskOutput, EventTally, LinkTarget, LinkSlot, LinkState}
-use Rattle.session.specs.Names.{task, waiting, resolved, granted, running, ended}
-use Rattle.rules.specs.declared.Operation.{Operation}
+use Rattle.session.specs.declared.Field.the-variants.{Dropped, Kind, TaskState, TaskFinish, TaskOutput, EventTally, LinkTarget}
+use Rattle.session.specs.declared.Field.the-variants.{LinkSlot, LinkState}
+use Rattle.session.specs.Names.{task, waiting, resolved, granted, running, ended, delivered}
 use Rattle.rules.specs.Formula.{Formula, holds, choose, Formula._≐_, Formula._and_}
 use Rattle.rules.specs.Reading.{at, isGone, isUndelivered}
 use Rattle.rules.specs.Checks.{deliverChecks, grantChecks, startChecks, endChecks}
-use Rattle.rules.specs.Effects.{fire, fireOne, fireFinished, satisfySlot, satisfyEvent, drops, deliver, grant, start, end, letGo, buryDoomed}
-use Rattle.rules.specs.Sound.{kept, isLink}
-use Rattle.rules.specs.Step.{after}
-use Rattle.rules.specs.Demand.{moves}
+use Rattle.rules.specs.Effects.{fire, fireOne, fireFinished, satisfySlot, satisfyEvent, drops, deliver, grant, start, end, letGo}
+use Rattle.rules.specs.Effects.{buryDoomed}
+use Rattle.rules.specs.Sound.{kept}
 use Rattle.rules.specs.FormulaLaws.{choose-case}
-use Rattle.laws.specs.Kept.{Rest, rest-of}
-use Rattle.laws.specs.Met.{met}
-use Rattle.laws.specs.Cases.{Accepted, Accepted.by-template, Accepted.by-task, Accepted.by-event, Accepted.by-block, Accepted.by-dependence, Accepted.by-satisfaction, Accepted.by-release, Accepted.by-destroy, Accepted.by-delivery, Accepted.by-grant, Accepted.by-start, Accepted.by-end}
-use Rattle.laws.specs.Standing.{waits as is-waiting, awaited-mark, slot-of}
+use Rattle.laws.specs.Frame.{AllOf}
+use Rattle.laws.specs.Rows.Name.{counts, taskParts, slots, links, states}
+use Rattle.laws.specs.Keeping.{Kept}
+use Rattle.laws.specs.ByName.{by-name}
+use Rattle.laws.specs.Conjuncts.{link-row, Linked.target-made, Linked.has-slot}
+use Rattle.laws.specs.Met.{Checked}
+use Rattle.laws.specs.Standing.{waits as is-waiting, awaited-mark, slot-of, link-at}
 use Rattle.laws.specs.SlotPlaces.{task-slot}
 use Rattle.laws.specs.Moving.{move}
 use Rattle.laws.specs.MarkLink.{handed}
 use Rattle.laws.specs.Firing.{LinkAfter, link-after, LinkAfter.ready-now, LinkAfter.as-was}
-use Rattle.laws.specs.SatisfyEvent.{EventSatisfied, event-satisfied, EventSatisfied.latch-counts, EventSatisfied.latch-fires, EventSatisfied.nothing-more, EventSatisfied.event-fires}
+use Rattle.laws.specs.SatisfyEvent.{EventSatisfied, event-satisfied, EventSatisfied.latch-counts}
+use Rattle.laws.specs.SatisfyEvent.{EventSatisfied.latch-fires, EventSatisfied.nothing-more, EventSatisfied.event-fires}
 use Rattle.laws.specs.FillSlot.{StateAfter, state-after, StateAfter.other, StateAfter.waits, StateAfter.moved}
 use Rattle.laws.specs.Deliver.{Delivered, delivery, Delivered.drops-it, Delivered.fills-task, Delivered.fills-event}
 use Rattle.laws.specs.Left.{left, left-same, moved-left, handed-left}
@@ -107,31 +110,28 @@ satisfySlot-left s t j p w =
     was k i h (moved q e n) x = let z : s TaskState i ≡ waiting = rw (← q) w in omega arith
 
 -- a delivery: the link is delivered, and what it satisfies has as much left
-deliver-falls : (s : Session) (l : ℕ) → met (deliverChecks s l) → holds (kept s) → left s ≡ 1 + left (deliver s l)
+pub deliver-falls : (s : Session) (l : ℕ) → Checked (deliverChecks s l) → holds (kept s) → left s ≡ 1 + left (deliver s l)
 unfolding drops put
-deliver-falls s l m k = handed-left s l (m .0 .1) (m .1 .0) ∙ ap (λ (n : ℕ). 1 + n) (sym (go (delivery s l)))
+deliver-falls s l m k = handed-left s l (m 9 .1) (m 16) ∙ ap (λ (n : ℕ). 1 + n) (sym (go (delivery s l)))
   where
-    r : Rest s
-    r = rest-of s k
+    r : Kept s
+    r = by-name s k
 
-    link : holds (isLink s l)
-    link = there (r .links l (let h = m .0 .1 in omega arith))
-      where
-        there : l ≡ 0 ⊎ holds (isLink s l) → holds (isLink s l)
-        there (inl z) = let h = m .0 .0 in absurd (omega arith)
-        there (inr x) = x
+    link : AllOf (link-row l) s
+    link = link-at s l (r links) (m 9)
 
     -- the task that it leads to waits, as its slot is not satisfied
-    still-waits : (holds (drops s (s LinkTarget l) (s LinkSlot l)) → ⊥) → s Kind (s LinkTarget l) ≡ task → handed s l TaskState (s LinkTarget l) ≡ waiting
+    still-waits : (holds (drops s (s LinkTarget l) (s LinkSlot l)) → ⊥) → s Kind (s LinkTarget l) ≡ task
+        → handed s l TaskState (s LinkTarget l) ≡ waiting
     still-waits n e =
         let t = s LinkTarget l in
         let j = s LinkSlot l in
-        let is-made = link .1 .1 .0 in
-        let has = link .1 .1 .1 .1 .0 in
+        let has = link has-slot in
         let there : holds (isGone s t) → ⊥ = λ g. n (inl g) in
-        let undone : s LinkState l ≡ 3 → ⊥ = λ q. let w = m .1 .0 in omega arith in
-        let mark = awaited-mark s t j l (slot-of s t j (r .objects) (r .slots) is-made has) e there (let h = m .0 .1 in omega arith) (refl, refl) undone in
-        is-waiting s t j (r .objects) (r .states) is-made e there (task-slot s t j e has) mark
+        let undone : s LinkState l ≡ delivered → ⊥ = λ q. let w = m 16 in omega arith in
+        let here = slot-of s t j (r counts) (r taskParts) (r slots) (link target-made) has in
+        let mark = awaited-mark s t j l here e there (let h = m 9 .1 in omega arith) (refl, refl) undone in
+        is-waiting s t j (r counts) (r taskParts) (r states) (link target-made) e there (task-slot s t j e has) mark
 
     go : Delivered s l → left (deliver s l) ≡ left (handed s l)
     go (drops-it x e) = rw e (dropped-left (handed s l) _)
@@ -139,21 +139,21 @@ deliver-falls s l m k = handed-left s l (m .0 .1) (m .1 .0) ∙ ap (λ (n : ℕ)
     go (fills-event n q e) = rw e (satisfyEvent-left (handed s l) _ _ _)
 
 -- a grant: from resolved to granted
-grant-falls : (s : Session) (t : ℕ) → met (grantChecks s t) → left s ≡ 1 + left (grant s t)
+pub grant-falls : (s : Session) (t : ℕ) → Checked (grantChecks s t) → left s ≡ 1 + left (grant s t)
 unfolding grant put change left
-grant-falls s t m = moved-left s t resolved (m .0 .1) (m .1 .0) (m .1 .1 .1 .0) (omega arith) (omega arith)
+grant-falls s t m = moved-left s t resolved (m 9 .1) (m 10) (m 16) (omega arith) (omega arith)
 
 -- a start: from granted to running
-start-falls : (s : Session) (t : ℕ) → met (startChecks s t) → left s ≡ 1 + left (start s t)
+pub start-falls : (s : Session) (t : ℕ) → Checked (startChecks s t) → left s ≡ 1 + left (start s t)
 unfolding start
-start-falls s t m = moved-left s t granted (m .0 .1) (m .1 .0) (m .1 .1 .1 .0) (omega arith) (omega arith)
+start-falls s t m = moved-left s t granted (m 9 .1) (m 10) (m 16) (omega arith) (omega arith)
 
 -- an end: from running to ended
-end-falls : (s : Session) (t b : ℕ) → met (endChecks s t b) → left s ≡ 1 + left (end s t b)
+pub end-falls : (s : Session) (t b : ℕ) → Checked (endChecks s t b) → left s ≡ 1 + left (end s t b)
 unfolding end letGo buryDoomed change
 end-falls s t b m =
     sym (letGo-left s t (λ k. 0 ≐ 0))
-    ∙ moved-left r t running (m .0 .0 .1) (m .1 .0 .0) (m .1 .1 .1 .0) (omega arith) (omega arith)
+    ∙ moved-left r t running (m 9 .0 .1) (m 10 .0) (m 16) (omega arith) (omega arith)
     ∙ ap (λ (n : ℕ). 1 + n) (sym (fireFinished-left _ ∙ first))
   where
     r : Session
@@ -166,19 +166,6 @@ end-falls s t b m =
     own = fireOne (move r t ended) (t + 1) b
 
     first : left (choose plainOutput own (move r t ended)) ≡ left (move r t ended)
-    first = choose-case (λ (q : Session). left q ≡ left (move r t ended)) plainOutput own (move r t ended) (λ h. fireOne-left (move r t ended) (t + 1) b) (λ n. refl)
-
--- each accepted move takes exactly one step from what is left
-pub moves-fall : (s : Session) (o : Operation) → holds (kept s) → holds (moves o) → Accepted s o → left s ≡ 1 + left (after s o)
-moves-fall s o k c (by-template d m a w) = let h = c .0 in absurd (omega arith)
-moves-fall s o k c (by-task d m a w) = let h = c .0 in absurd (omega arith)
-moves-fall s o k c (by-event d m a w) = let h = c .0 in absurd (omega arith)
-moves-fall s o k c (by-block d m a w) = let h = c .0 in absurd (omega arith)
-moves-fall s o k c (by-dependence d m a w) = let h = c .0 in absurd (omega arith)
-moves-fall s o k c (by-satisfaction d m a w) = let h = c .0 in absurd (omega arith)
-moves-fall s o k c (by-release d m a w) = let h = c .0 in absurd (omega arith)
-moves-fall s o k c (by-destroy d m a w) = let h = c .0 in absurd (omega arith)
-moves-fall s o k c (by-delivery d m a w) = rw a (deliver-falls s _ m k)
-moves-fall s o k c (by-grant d m a w) = rw a (grant-falls s _ m)
-moves-fall s o k c (by-start d m a w) = rw a (start-falls s _ m)
-moves-fall s o k c (by-end d m a w) = rw a (end-falls s _ _ m)
+    first =
+        choose-case (λ (q : Session). left q ≡ left (move r t ended)) plainOutput own (move r t ended)
+        (λ h. fireOne-left (move r t ended) (t + 1) b) (λ n. refl)

@@ -6,12 +6,13 @@ use mathlib.Core.Logic.{inr}
 use native.Mathlib.Omega.{arith}
 use borrow.Author.Tests.{ne-eqb}
 use Rattle.session.specs.Table.{put}
-use Rattle.rules.specs.Formula.{holds, test, count, Formula._and_, Formula.each}
+use Rattle.rules.specs.Formula.{holds, test, count}
 use Rattle.rules.specs.FormulaLaws.{passed}
 use Rattle.rules.specs.Reading.{at, isKind, under}
 use Rattle.rules.specs.Effects.{new}
-use Rattle.rules.specs.Sound.{kept, sound, soundUsed, unused, settled, templatePart, taskPart, eventPart, blockPart, noSlot}
+use Rattle.rules.specs.Sound.{kept, soundUsed, unused, settled, templatePart, taskPart, eventPart, blockPart, noSlot}
 use Rattle.rules.specs.Step.{freshSession}
+use Rattle.laws.specs.ByName.{kept-from-used}
 
 used : test (soundUsed freshSession) ≡ true
 unfolding soundUsed freshSession new put test count under
@@ -22,21 +23,44 @@ unfolding freshSession new put test
 links-settled = refl
 
 -- past the main task nothing stands
-past : (h : ℕ) → 2 < h → holds (isKind freshSession 0 h and templatePart freshSession h and taskPart freshSession h and eventPart freshSession h and blockPart freshSession h and each 16 (λ j. noSlot freshSession (at h j)))
-unfolding freshSession new put
-past h l =
-    rw (ne-eqb 2 h (λ e. omega arith), ne-eqb 1 h (λ e. omega arith)) (
-      refl,
-      (inr (λ e. omega arith, (refl, refl)), (inr (λ e. omega arith, (refl, (refl, (refl, (refl, refl))))), (inr (λ e. omega arith, (refl, (refl, (refl, refl)))), (inr (λ e. omega arith, (refl, (refl, refl))), slot-past)))),
-    )
-  where
-    slot-past : (j : ℕ) → j < 16 → holds (noSlot freshSession (at h j))
-    slot-past j _ = rw (ne-eqb 32 (at h j) (λ e. omega arith)) (refl, (refl, refl))
+module _ (h : ℕ) (past : 2 < h) where
+  no-kind : holds (isKind freshSession 0 h)
+  unfolding freshSession new put
+  no-kind = rw (ne-eqb 2 h (λ e. omega arith), ne-eqb 1 h (λ e. omega arith)) refl
+
+  no-template : holds (templatePart freshSession h)
+  unfolding freshSession new put
+  no-template = inr ((λ e. let k = no-kind in omega arith), (refl, refl))
+
+  no-task : holds (taskPart freshSession h)
+  unfolding freshSession new put
+  no-task =
+      rw (ne-eqb 2 h (λ e. omega arith), ne-eqb 1 h (λ e. omega arith))
+      (inr ((λ e. omega arith), (refl, (refl, (refl, (refl, refl))))))
+
+  no-event : holds (eventPart freshSession h)
+  unfolding freshSession new put
+  no-event = inr ((λ e. let k = no-kind in omega arith), (refl, (refl, (refl, refl))))
+
+  no-block : holds (blockPart freshSession h)
+  unfolding freshSession new put
+  no-block =
+      rw (ne-eqb 2 h (λ e. omega arith), ne-eqb 1 h (λ e. omega arith)) (inr ((λ e. omega arith), (refl, (refl, refl))))
+
+  no-slot : (j : ℕ) → j < 16 → holds (noSlot freshSession (at h j))
+  unfolding freshSession new put
+  no-slot j _ = rw (ne-eqb 32 (at h j) (λ e. omega arith)) (refl, (refl, refl))
 
 fresh-unused : holds (unused freshSession)
 unfolding freshSession new put
-fresh-unused = ((refl, (refl, (refl, refl))), (λ h _ l. past h l, λ l _ _. (refl, (refl, (refl, refl)))))
+fresh-unused = (
+  (refl, (refl, (refl, refl))),
+  (
+    λ h _ l. (no-kind h l, (no-template h l, (no-task h l, (no-event h l, (no-block h l, no-slot h l))))),
+    λ l _ _. (refl, (refl, (refl, refl))),
+  ),
+)
 
 pub fresh-kept : holds (kept freshSession)
-unfolding kept sound
-fresh-kept = ((passed (soundUsed freshSession) used, fresh-unused), passed (settled freshSession) links-settled)
+fresh-kept =
+    kept-from-used freshSession (passed (soundUsed freshSession) used) fresh-unused (passed (settled freshSession) links-settled)

@@ -4,13 +4,21 @@ use mathlib.Core.Path.{_≡_, refl}
 use mathlib.Core.Logic.{_⊎_, inl, inr}
 use native.Mathlib.Omega.{arith}
 use Rattle.session.specs.Table.{Session, put}
-use Rattle.session.specs.declared.Field.the-variants.{Objects, Links, Kind, TemplateState, TemplateCount, TaskState, TaskCreator, TaskSlots, TaskFinish, TaskOutput, EventState, EventType, EventPayload, EventTally, BlockState, BlockCreator, BlockHeld, SlotMark, SlotPayload, LinkSource, LinkTarget, LinkSlot, LinkState}
+use Rattle.session.specs.declared.Field.the-variants.{Objects, Links, Kind, TemplateState, TemplateCount, TaskState, TaskCreator}
+use Rattle.session.specs.declared.Field.the-variants.{TaskSlots, TaskFinish, TaskOutput, EventState, EventType, EventPayload}
+use Rattle.session.specs.declared.Field.the-variants.{EventTally, BlockState, BlockCreator, BlockHeld, SlotMark, SlotPayload}
+use Rattle.session.specs.declared.Field.the-variants.{LinkSource, LinkTarget, LinkSlot, LinkState}
 use Rattle.rules.specs.Formula.{Formula, holds, not, choose, Formula._≐_, Formula._≼_, Formula._and_, Formula.each}
 use Rattle.rules.specs.FormulaLaws.{choose-case}
-use Rattle.session.specs.Names.{template, task, event, block, fresh, waiting, resolved, eventOpen, fired, destroyedUnfired, destroyedFired, doomed, blockDestroyed, linkOpen, ready, delivered, cut, latch, output, satisfied, held, evenTally}
+use Rattle.session.specs.Names.{template, task, event, block, fresh, waiting, resolved, eventOpen, fired, destroyedUnfired}
+use Rattle.session.specs.Names.{destroyedFired, doomed, blockDestroyed, linkOpen, ready, delivered, cut, latch, output, satisfied}
+use Rattle.session.specs.Names.{held, evenTally}
 use Rattle.rules.specs.Reading.{at, isHeld}
-use Rattle.rules.specs.Effects.{new, newTemplate, newEvent, newTask, makeTask, newBlock, fire, fireOne, satisfySlot, satisfyEvent, newLink, buryDoomed, letGo, destroyEvent, finishes, fireFinished}
-use Rattle.laws.specs.SatisfyEvent.{EventSatisfied, event-satisfied, EventSatisfied.latch-counts, EventSatisfied.latch-fires, EventSatisfied.nothing-more, EventSatisfied.event-fires}
+use Rattle.rules.specs.Effects.{new, newTemplate, newEvent, newTask, makeTask, newBlock, fire, fireOne, satisfySlot, satisfyEvent}
+use Rattle.rules.specs.Effects.{newLink, buryDoomed, letGo, destroyEvent, finishes, fireFinished}
+use Rattle.laws.specs.SatisfyEvent.{EventSatisfied, event-satisfied, EventSatisfied.latch-counts}
+use Rattle.laws.specs.SatisfyEvent.{EventSatisfied.latch-fires, EventSatisfied.nothing-more, EventSatisfied.event-fires}
+use Rattle.laws.specs.Conjuncts.{finishes-by-name}
 use Rattle.laws.specs.Lasting.{HadFired, Lasts, Later, later-same, later-put, later-change}
 
 -- a new object under a handle past the count
@@ -22,7 +30,8 @@ pub later-newTemplate : (s : Session) (n : ℕ) → Later s (newTemplate s n)
 unfolding newTemplate
 later-newTemplate s n =
     let h = s Objects 0 + 1 in
-    later-put TemplateCount h n (later-put TemplateState h fresh (later-new h template (later-same s) (omega arith)) (omega arith)) (omega arith)
+    later-put TemplateCount h n
+    (later-put TemplateState h fresh (later-new h template (later-same s) (omega arith)) (omega arith)) (omega arith)
 
 pub later-newEvent : {s r : Session} (h ty : ℕ) → Later s r → s Objects 0 < h → Later s (newEvent r h ty)
 unfolding newEvent
@@ -38,7 +47,8 @@ unfolding newBlock
 later-newBlock s caller hold =
     let h = s Objects 0 + 1 in
     later-put BlockHeld h hold
-    (later-put BlockCreator h caller (later-put BlockState h fresh (later-new h block (later-same s) (omega arith)) (omega arith)) (omega arith)) (omega arith)
+    (later-put BlockCreator h caller
+    (later-put BlockState h fresh (later-new h block (later-same s) (omega arith)) (omega arith)) (omega arith)) (omega arith)
 
 later-newTask : (s : Session) (caller h n finish out : ℕ) → s Objects 0 < h → Later s (newTask s caller h n finish out)
 unfolding newTask
@@ -47,7 +57,8 @@ later-newTask s caller h n finish out l =
     (later-put TaskFinish h finish
     (later-put TaskSlots h n
     (later-put TaskCreator h caller
-    (later-put TaskState h (choose (n ≐ 0) resolved waiting) (later-new h task (later-same s) l) (omega arith)) (omega arith)) (omega arith)) (omega arith)) (omega arith)
+    (later-put TaskState h (choose (n ≐ 0) resolved waiting) (later-new h task (later-same s) l) (omega arith)) (omega arith))
+    (omega arith)) (omega arith)) (omega arith)
 
 pub later-makeTask : (s : Session) (caller n finish out : ℕ) → Later s (makeTask s caller n finish out)
 unfolding makeTask
@@ -73,8 +84,10 @@ open-link {s} {r} l v x o m =
     neither (inr e) = no-open (r LinkState l) o .0 e
 
 -- an event that is open after what was done had not fired
-open-event : {s r : Session} (e : ℕ) → Later s r → e ≤ s Objects 0 → r EventState e ≡ eventOpen → (HadFired (s EventState e) → ⊥) × (s EventState e ≡ destroyedUnfired → ⊥)
-open-event {s} {r} e x l o = (λ h. neither (x .lasts EventState e l .0 h), λ h. let y = x .lasts EventState e l .1 h in omega arith)
+open-event : {s r : Session} (e : ℕ) → Later s r → e ≤ s Objects 0 → r EventState e ≡ eventOpen
+    → (HadFired (s EventState e) → ⊥) × (s EventState e ≡ destroyedUnfired → ⊥)
+open-event {s} {r} e x l o =
+    (λ h. neither (x .lasts EventState e l .0 h), λ h. let y = x .lasts EventState e l .1 h in omega arith)
   where
     neither : HadFired (r EventState e) → ⊥
     neither (inl h) = omega arith
@@ -113,7 +126,7 @@ later-fireOne e p x o = later-fire (λ k. k ≐ e) (λ k. p) x (λ k q. rw q o)
 
 pub later-fireFinished : {s r : Session} → Later s r → Later s (fireFinished r)
 unfolding fireFinished
-later-fireFinished {s} {r} x = later-fire (finishes r) (λ e. 0) x (λ e f. f .1 .1 .0)
+later-fireFinished {s} {r} x = later-fire (finishes r) (λ e. 0) x (λ e f. finishes-by-name r e f .unfired)
 
 -- an event is destroyed that was not destroyed after it had fired
 pub later-destroyEvent : {s r : Session} (e : ℕ) → Later s r → (r EventState e ≡ destroyedFired → ⊥) → Later s (destroyEvent r e)
@@ -154,13 +167,15 @@ later-buryDoomed {s} {r} x = later-change BlockState (λ b. choose (goes b) bloc
     states : (b : ℕ) → Lasts s BlockState b (s BlockState b) (choose (goes b) blockDestroyed (r BlockState b))
     states b =
         choose-case (λ (v : ℕ). Lasts s BlockState b (s BlockState b) v) (goes b) blockDestroyed (r BlockState b)
-        (λ f l. let y = x .lasts BlockState b l in let e : r BlockState b ≡ doomed = f .0 in omega arith) (λ f. x .lasts BlockState b)
+        (λ f l. let y = x .lasts BlockState b l in let e : r BlockState b ≡ doomed = f .0 in omega arith)
+        (λ f. x .lasts BlockState b)
 
 pub later-letGo : {s r : Session} (t : ℕ) (which : ℕ → Formula) → Later s r → Later s (letGo r t which)
 unfolding letGo
 later-letGo {s} {r} t which x =
     later-buryDoomed
-    (later-change BlockHeld (λ b. choose (made-by b) 0 (r BlockHeld b)) (later-change SlotMark (λ i. choose (goes i) satisfied (r SlotMark i)) x marks) helds)
+    (later-change BlockHeld (λ b. choose (made-by b) 0 (r BlockHeld b))
+    (later-change SlotMark (λ i. choose (goes i) satisfied (r SlotMark i)) x marks) helds)
   where
     goes : ℕ → Formula
     goes i = (i / 16 ≐ t) and (r SlotMark i ≐ held) and which (r SlotPayload i)
@@ -169,17 +184,23 @@ later-letGo {s} {r} t which x =
     made-by b = r BlockCreator b ≐ t and which b
 
     marks : (i : ℕ) → Lasts s SlotMark i (s SlotMark i) (choose (goes i) satisfied (r SlotMark i))
-    marks i = choose-case (λ (v : ℕ). Lasts s SlotMark i (s SlotMark i) v) (goes i) satisfied (r SlotMark i) (λ f l. omega arith) (λ f. x .lasts SlotMark i)
+    marks i =
+        choose-case (λ (v : ℕ). Lasts s SlotMark i (s SlotMark i) v) (goes i) satisfied (r SlotMark i) (λ f l. omega arith)
+        (λ f. x .lasts SlotMark i)
 
     helds : (b : ℕ) → Lasts s BlockHeld b (s BlockHeld b) (choose (made-by b) 0 (r BlockHeld b))
-    helds b = choose-case (λ (v : ℕ). Lasts s BlockHeld b (s BlockHeld b) v) (made-by b) 0 (r BlockHeld b) (λ f l. omega arith) (λ f. x .lasts BlockHeld b)
+    helds b =
+        choose-case (λ (v : ℕ). Lasts s BlockHeld b (s BlockHeld b) v) (made-by b) 0 (r BlockHeld b) (λ f l. omega arith)
+        (λ f. x .lasts BlockHeld b)
 
 -- an unsatisfied slot of a waiting task is satisfied
-pub later-satisfySlot : {s r : Session} (t j p : ℕ) → Later s r → r SlotMark (at t j) ≡ 0 → r TaskState t ≡ waiting → Later s (satisfySlot r t j p)
+pub later-satisfySlot : {s r : Session} (t j p : ℕ) → Later s r → r SlotMark (at t j) ≡ 0 → r TaskState t ≡ waiting
+    → Later s (satisfySlot r t j p)
 unfolding satisfySlot
 later-satisfySlot {s} {r} t j p x z w =
     later-put TaskState t (choose all resolved (r TaskState t))
-    (later-put SlotPayload (at t j) p (later-put SlotMark (at t j) satisfied x (λ l. omega arith)) (λ l. let y = x .lasts SlotMark (at t j) l in absurd (omega arith))) state
+    (later-put SlotPayload (at t j) p (later-put SlotMark (at t j) satisfied x (λ l. omega arith))
+    (λ l. let y = x .lasts SlotMark (at t j) l in absurd (omega arith))) state
   where
     all : Formula
     all = each (r TaskSlots t) (λ k. 1 ≼ put (put r SlotMark (at t j) satisfied) SlotPayload (at t j) p SlotMark (at t k))
@@ -208,7 +229,9 @@ later-newLink {s} {r} source d j x =
     let grown = x .lasts Links 0 in
     let l = r Links 0 + 1 in
     later-put LinkState l (choose (r EventState source ≐ fired) ready linkOpen)
-    (later-put LinkSlot l j (later-put LinkTarget l d (later-put LinkSource l source (later-put Links 0 l x (omega arith)) (omega arith)) (omega arith)) (omega arith))
+    (later-put LinkSlot l j
+    (later-put LinkTarget l d (later-put LinkSource l source (later-put Links 0 l x (omega arith)) (omega arith)) (omega arith))
+    (omega arith))
     (λ m. absurd (past m))
   where
     past : r Links 0 + 1 ≤ s Links 0 → ⊥

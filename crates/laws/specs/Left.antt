@@ -40,17 +40,20 @@ module _ (s r : Session) (x : SameLeft s r) where
   same-upTo : (k : ℕ) → resolved ≤ k → tasksUpTo r k ≡ tasksUpTo s k
   same-upTo k h =
       ap (λ (n : ℕ). count (n + 1) (upTo r k)) (x .objects)
-      ∙ count-same (s Objects 0 + 1) (upTo r k) (upTo s k) (λ i l y. (sym (x .kinds i) ∙ y .0, x .was-upTo k i h (y .1))) (λ i l y. (x .kinds i ∙ y .0, x .still-upTo k i h (y .1)))
+      ∙ count-same (s Objects 0 + 1) (upTo r k) (upTo s k) (λ i l y. (sym (x .kinds i) ∙ y .0, x .was-upTo k i h (y .1)))
+      (λ i l y. (x .kinds i ∙ y .0, x .still-upTo k i h (y .1)))
 
   same-undelivered : undeliveredLinks r ≡ undeliveredLinks s
   unfolding undeliveredLinks
   same-undelivered =
       ap (λ (n : ℕ). count (n + 1) (isUndelivered r)) (x .links)
-      ∙ count-same (s Links 0 + 1) (isUndelivered r) (isUndelivered s) (λ i l. x .was-undelivered i) (λ i l. x .still-undelivered i)
+      ∙ count-same (s Links 0 + 1) (isUndelivered r) (isUndelivered s) (λ i l. x .was-undelivered i)
+      (λ i l. x .still-undelivered i)
 
   pub left-same : left r ≡ left s
   unfolding left
-  left-same = rw (same-undelivered, same-upTo resolved (omega arith), same-upTo granted (omega arith), same-upTo running (omega arith))
+  left-same =
+      rw (same-undelivered, same-upTo resolved (omega arith), same-upTo granted (omega arith), same-upTo running (omega arith))
 
 -- a task that goes on to the next state, from resolved to ended, takes one step
 module _ (s : Session) (t v : ℕ) (low : t ≤ s Objects 0) (kind : s Kind t ≡ task) (was : s TaskState t ≡ v) where
@@ -63,7 +66,8 @@ module _ (s : Session) (t v : ℕ) (low : t ≤ s Objects 0) (kind : s Kind t �
   moved-one : (k : ℕ) → v ≡ k → tasksUpTo s k ≡ 1 + tasksUpTo (move s t (suc v)) k
   unfolding put
   moved-one k e =
-      count-one (s Objects 0 + 1) (upTo (move s t (suc v)) k) (upTo s k) t (omega arith) (λ y. let z = y .1 in let h = here in absurd (omega arith)) (kind, omega arith)
+      count-one (s Objects 0 + 1) (upTo (move s t (suc v)) k) (upTo s k) t (omega arith)
+      (λ y. let z = y .1 in let h = here in absurd (omega arith)) (kind, omega arith)
       (λ i l n y. (y .0, rw (there i n) at (y .1))) (λ i l n y. (y .0, rw (there i n) (y .1)))
 
   moved-none : (k : ℕ) → (v ≡ k → ⊥) → tasksUpTo s k ≡ tasksUpTo (move s t (suc v)) k

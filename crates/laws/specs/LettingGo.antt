@@ -1,37 +1,52 @@
 -- A running task lets go of holds: marks of its slots fall from held to satisfied, blocks that it made stop being held
--- from their creation, and doomed blocks whose last hold went are destroyed. Nothing else changes, and all rules are kept.
-use Prim.Native.Nat.{ℕ, _/_, _≤_, _<_}
+-- from their creation, and doomed blocks whose last hold went are destroyed. Three fields are written.
+use Prim.Native.Nat.{ℕ, _+_, _/_, _≤_, _<_}
 use mathlib.Core.Path.{_≡_, refl, sym, _∙_}
 use mathlib.Core.Logic.{inl, inr}
+use mathlib.Core.List.{[]}
 use native.Mathlib.Omega.{arith}
-use mathlib.Core.Bool.{false}
-use Rattle.session.specs.Table.{Session, change, same}
-use Rattle.session.specs.declared.Field.{Field}
-use Rattle.session.specs.declared.Field.the-variants.{TaskState, TaskSlots, BlockState, BlockCreator, BlockHeld, SlotMark, SlotPayload}
+use Rattle.session.specs.Table.{Session, change}
+use Rattle.session.specs.declared.Field.the-variants.{TaskState, TaskSlots, BlockState, BlockCreator, BlockHeld, SlotMark}
+use Rattle.session.specs.declared.Field.the-variants.{Objects, SlotPayload}
+use Rattle.session.specs.Names.{granted, satisfied, held, doomed, blockDestroyed}
 use Rattle.rules.specs.Formula.{Formula, holds, not, Formula._≐_, Formula._and_}
 use Rattle.rules.specs.FormulaLaws.{Case, decide, choose-yes, choose-no, Case.it-does, Case.it-does-not}
-use Rattle.session.specs.Names.{granted, running, satisfied, held, doomed, blockDestroyed}
 use Rattle.rules.specs.Reading.{at, isHeld, isRunning}
 use Rattle.rules.specs.Effects.{letGo, buryDoomed}
-use Rattle.rules.specs.Sound.{kept, counts, objects, roots, creators, outputs, slots, links, oneLink, states, blocks, compatible, latches, dropped, unused, settled, blockPart}
-use Rattle.laws.specs.Kept.{Rest, rest-of, outputs-of, kept-from}
-use Rattle.laws.specs.SlotPlaces.{at-div, few-slots}
-use Rattle.laws.specs.Marks.{Marking, marked-roots, marked-noSlot, marked-slots, marked-settled, marked-full, marked-was-full}
+use Rattle.rules.specs.Sound.{blockPart, state}
+use Rattle.laws.specs.Writes.{letGoFields, letGo-writes}
+use Rattle.laws.specs.Frame.{AllOf, DueOf, Shown.due}
+use Rattle.laws.specs.Rows.{Name, says}
+use Rattle.laws.specs.Rows.Name.{counts, taskParts, blockParts, roots, slots, states, blocks, compatible, freeSlots}
+use Rattle.laws.specs.Rows.Name.{settled}
+use Rattle.laws.specs.Keeping.{Due, kept-by, Kept}
+use Rattle.laws.specs.Conjuncts.{Block, block-row, block-says, block-by-name, block-lasts}
+use Rattle.laws.specs.Conjuncts.Block.{state-low, state-high, held-flag}
+use Rattle.laws.specs.Conjuncts.{State, state-row, state-says, state-by-name, state-lasts}
+use Rattle.laws.specs.Conjuncts.State.{waits-unfilled, later-full, slot-holds}
+use Rattle.laws.specs.Marks.{Marking, slot-low, marked-roots, marked-noSlot, marked-slots, marked-settled, marked-full}
+use Rattle.laws.specs.Marks.{marked-was-full}
+use Rattle.laws.specs.SlotPlaces.{at-div}
 
 -- a slot's mark after
 pub data MarkAfter (s : Session) (t : ℕ) (which : ℕ → Formula) (i : ℕ) : Type 0 where
-  mark-stays : ((i / 16 ≡ t) × ((s SlotMark i ≡ held) × holds (which (s SlotPayload i))) → ⊥) → letGo s t which SlotMark i ≡ s SlotMark i → MarkAfter s t which i
-  mark-falls : i / 16 ≡ t → s SlotMark i ≡ held → holds (which (s SlotPayload i)) → letGo s t which SlotMark i ≡ satisfied → MarkAfter s t which i
+  mark-stays : ((i / 16 ≡ t) × ((s SlotMark i ≡ held) × holds (which (s SlotPayload i))) → ⊥)
+      → letGo s t which SlotMark i ≡ s SlotMark i → MarkAfter s t which i
+  mark-falls : i / 16 ≡ t → s SlotMark i ≡ held → holds (which (s SlotPayload i)) → letGo s t which SlotMark i ≡ satisfied
+      → MarkAfter s t which i
 
 -- whether a block is held from its creation
 pub data HeldAfter (s : Session) (t : ℕ) (which : ℕ → Formula) (b : ℕ) : Type 0 where
-  held-stays : ((s BlockCreator b ≡ t) × holds (which b) → ⊥) → letGo s t which BlockHeld b ≡ s BlockHeld b → HeldAfter s t which b
+  held-stays : ((s BlockCreator b ≡ t) × holds (which b) → ⊥) → letGo s t which BlockHeld b ≡ s BlockHeld b
+      → HeldAfter s t which b
   held-falls : s BlockCreator b ≡ t → holds (which b) → letGo s t which BlockHeld b ≡ 0 → HeldAfter s t which b
 
 -- a block's state
 pub data BlockAfter (s : Session) (t : ℕ) (which : ℕ → Formula) (b : ℕ) : Type 0 where
-  block-stays : ((s BlockState b ≡ doomed) × (holds (isHeld (letGo s t which) b) → ⊥) → ⊥) → letGo s t which BlockState b ≡ s BlockState b → BlockAfter s t which b
-  block-falls : s BlockState b ≡ doomed → (holds (isHeld (letGo s t which) b) → ⊥) → letGo s t which BlockState b ≡ blockDestroyed → BlockAfter s t which b
+  block-stays : ((s BlockState b ≡ doomed) × (holds (isHeld (letGo s t which) b) → ⊥) → ⊥)
+      → letGo s t which BlockState b ≡ s BlockState b → BlockAfter s t which b
+  block-falls : s BlockState b ≡ doomed → (holds (isHeld (letGo s t which) b) → ⊥)
+      → letGo s t which BlockState b ≡ blockDestroyed → BlockAfter s t which b
 
 module _ (s : Session) (t : ℕ) (which : ℕ → Formula) where
   pub mark-after : (i : ℕ) → MarkAfter s t which i
@@ -113,132 +128,99 @@ module _ (s : Session) (t : ℕ) (which : ℕ → Formula) where
 
   letGo-blockPart : (b : ℕ) → holds (blockPart s b) → holds (blockPart (letGo s t which) b)
   unfolding letGo buryDoomed change
-  letGo-blockPart b x = go x (held-after b) (block-after b)
+  letGo-blockPart b x = go x
     where
-      less : HeldAfter s t which b → letGo s t which BlockHeld b ≤ s BlockHeld b
-      less (held-stays n e) = omega arith
-      less (held-falls p w e) = omega arith
+      flag : s BlockHeld b ≤ 1 → HeldAfter s t which b → letGo s t which BlockHeld b ≤ 1
+      flag f (held-stays n e) = omega arith
+      flag f (held-falls p w e) = omega arith
 
-      one : 1 ≤ s BlockState b → BlockAfter s t which b → 1 ≤ letGo s t which BlockState b
-      one h (block-stays n e) = omega arith
-      one h (block-falls p n e) = omega arith
+      low : 1 ≤ s BlockState b → BlockAfter s t which b → 1 ≤ letGo s t which BlockState b
+      low h (block-stays n e) = omega arith
+      low h (block-falls p n e) = omega arith
 
-      three : s BlockState b ≤ blockDestroyed → BlockAfter s t which b → letGo s t which BlockState b ≤ blockDestroyed
-      three h (block-stays n e) = omega arith
-      three h (block-falls p n e) = omega arith
+      high : s BlockState b ≤ blockDestroyed → BlockAfter s t which b → letGo s t which BlockState b ≤ blockDestroyed
+      high h (block-stays n e) = omega arith
+      high h (block-falls p n e) = omega arith
 
-      none : s BlockState b ≡ 0 → BlockAfter s t which b → letGo s t which BlockState b ≡ 0
-      none h (block-stays n e) = omega arith
-      none h (block-falls p n e) = omega arith
+      no-state : s BlockState b ≡ 0 → BlockAfter s t which b → letGo s t which BlockState b ≡ 0
+      no-state h (block-stays n e) = omega arith
+      no-state h (block-falls p n e) = omega arith
 
-      go : holds (blockPart s b) → HeldAfter s t which b → BlockAfter s t which b → holds (blockPart (letGo s t which) b)
-      go (inl y) h a = let l = less h in let z = y .1 .1 .1 .0 in inl (y .0, (one (y .1 .0) a, (three (y .1 .1 .0) a, ((omega arith), y .1 .1 .1 .1))))
-      go (inr y) h a = let l = less h in let z = y .1 .1 .1 in inr (y .0, (none (y .1 .0) a, (y .1 .1 .0, (omega arith))))
+      no-hold : s BlockHeld b ≡ 0 → HeldAfter s t which b → letGo s t which BlockHeld b ≡ 0
+      no-hold h (held-stays n e) = omega arith
+      no-hold h (held-falls p w e) = e
 
-  letGo-objects : holds (objects s) → holds (objects (letGo s t which))
-  unfolding letGo buryDoomed change
-  letGo-objects o = (o .0, λ h l. let x = o .1 h l in (x .0, (x .1 .0, (x .1 .1 .0, (x .1 .1 .1 .0, letGo-blockPart h (x .1 .1 .1 .1))))))
-
-  letGo-unused : holds (unused s) → holds (unused (letGo s t which))
-  unfolding letGo buryDoomed change
-  letGo-unused u = (
-    u .0,
-    (
-      (λ h l p.
-          let x = u .1 .0 h l p in (
-            x .0,
-            (
-              x .1 .0,
-              (
-                x .1 .1 .0,
-                (
-                  x .1 .1 .1 .0,
-                  (
-                    letGo-blockPart h (x .1 .1 .1 .1 .0),
-                    λ j b. marked-noSlot s (letGo s t which SlotMark) (s TaskState) letting-go (at h j) (x .1 .1 .1 .1 .1 j b),
-                  ),
-                ),
-              ),
-            ),
-          )),
-      u .1 .1,
-    ),
-  )
-
-  letGo-blocks : holds (blocks s) → holds (blocks (letGo s t which))
-  unfolding letGo buryDoomed change
-  letGo-blocks o b l k = let x = o b l k in ((λ e. x .0 (was-held-made b e)), ((λ e. lasting e (block-after b)), λ e. gone (x .1 .1) e (block-after b)))
-    where
-      lasting : letGo s t which BlockState b ≡ doomed → BlockAfter s t which b → holds (isHeld (letGo s t which) b)
-      lasting e (block-stays n q) = go (decide (isHeld (letGo s t which) b))
+      go : holds (blockPart s b) → holds (blockPart (letGo s t which) b)
+      go (inr (n, (z, (c, f)))) = inr (n, (no-state z (block-after b), (c, no-hold f (held-after b))))
+      go (inl y) = block-lasts b (letGo-writes s t which) (y .0) x shows
         where
-          go : Case (isHeld (letGo s t which) b) → holds (isHeld (letGo s t which) b)
-          go (it-does x) = x
-          go (it-does-not m) = absurd (n (sym q ∙ e, m))
-      lasting e (block-falls p n q) = absurd (omega arith)
+          v : AllOf (block-row b) s
+          v = block-by-name b s (y .0) x
 
-      gone : (s BlockState b ≡ blockDestroyed → holds (isHeld s b) → ⊥) → letGo s t which BlockState b ≡ blockDestroyed → BlockAfter s t which b → holds (isHeld (letGo s t which) b) → ⊥
-      gone f e (block-stays n q) x = f (sym q ∙ e) (was-isHeld b x)
-      gone f e (block-falls p n q) x = n x
+          shows : (n : Block) → DueOf (block-row b) letGoFields n → holds (block-says b n (letGo s t which))
+          shows state-low due = low (v state-low) (block-after b)
+          shows state-high due = high (v state-high) (block-after b)
+          shows held-flag due = flag (v held-flag) (held-after b)
 
-  letGo-compatible : holds (compatible s) → holds (compatible (letGo s t which))
-  unfolding letGo buryDoomed change
-  letGo-compatible o i l e =
-      let x = o i l (was-held i e) in
-      ((λ k b y. x .0 k b (was-held k (y .0), y .1)), λ y. x .1 (was-held-made (s SlotPayload i) (y .0), y .1))
+  module _ (run : holds (isRunning s t)) (r : Kept s) where
+    letGo-state : (h : ℕ) → h < s Objects 0 + 1 → holds (state s h) → holds (state (letGo s t which) h)
+    unfolding letGo buryDoomed change
+    letGo-state h l x = state-lasts h (letGo-writes s t which) x shows
+      where
+        v : AllOf (state-row h) s
+        v = state-by-name h s x
 
-  letGo-states : (s TaskState t ≡ granted → ⊥) → holds (objects s) → holds (slots s) → holds (states s) → holds (states (letGo s t which))
-  unfolding letGo buryDoomed change
-  letGo-states run o sl q h l k =
-      let x = q h l k in
-      let m = letGo s t which SlotMark in (
-        (λ e f. x .0 e (marked-was-full s m (s TaskState) letting-go h o sl l f)),
-        (
-          (λ e. marked-full s m (s TaskState) letting-go h (x .1 .0 e)),
-          λ j b. ((λ y. lasting j b (y .0) (x .1 .1 j b .0 y) (mark-after (at h j))), λ y. x .1 .1 j b .1 (was-held (at h j) y)),
-        ),
-      )
-    where
-      lasting : (j : ℕ) → j < s TaskSlots h → s TaskState h ≡ granted → s SlotMark (at h j) ≡ held → MarkAfter s t which (at h j) → letGo s t which SlotMark (at h j) ≡ held
-      lasting j b g e (mark-stays n p) = p ∙ e
-      lasting j b g e (mark-falls p d w c) =
-          let f = few-slots s o h l in
-          let own : h ≡ t = sym (at-div h j (omega arith)) ∙ p in
-          absurd (run (rw own at g))
+        -- who is granted is not t
+        lasting : (j : ℕ) → j < s TaskSlots h → s TaskState h ≡ granted → s SlotMark (at h j) ≡ held
+            → MarkAfter s t which (at h j) → letGo s t which SlotMark (at h j) ≡ held
+        lasting j b g e (mark-stays n p) = p ∙ e
+        lasting j b g e (mark-falls p d w c) =
+            let own : h ≡ t = sym (at-div h j (slot-low s (r counts) (r taskParts) h j l b)) ∙ p in
+            let is : s TaskState t ≡ granted = rw own at g in
+            let runs = run .1 .1 in
+            absurd (omega arith)
 
-  letGo-outputs : holds (outputs s) → holds (outputs (letGo s t which))
-  unfolding letGo buryDoomed change
-  letGo-outputs h = h
+        shows : (n : State) → DueOf (state-row h) letGoFields n → holds (state-says h n (letGo s t which))
+        shows waits-unfilled due = λ e f. v waits-unfilled e (marked-was-full letting-go r h l f)
+        shows later-full due = λ e. marked-full letting-go h (v later-full e)
+        shows slot-holds due = λ j b.
+            let y = v slot-holds j b in
+            (λ g. lasting j b (g .0) (y .0 g) (mark-after (at h j)), λ e. y .1 (was-held (at h j) e))
 
-  -- all rules but that of the outputs
-  pub letGo-rest : s TaskState t ≡ running → Rest s → Rest (letGo s t which)
-  unfolding letGo buryDoomed change
-  letGo-rest run r =
-      let m = letGo s t which SlotMark in
-      record {
-        counts = r .counts;
-        objects = letGo-objects (r .objects);
-        roots = marked-roots s m (s TaskState) letting-go (r .roots);
-        creators = r .creators;
-        slots = marked-slots s m (s TaskState) letting-go (r .slots);
-        links = r .links;
-        oneLink = r .oneLink;
-        states = letGo-states (λ e. omega arith) (r .objects) (r .slots) (r .states);
-        blocks = letGo-blocks (r .blocks);
-        compatible = letGo-compatible (r .compatible);
-        latches = r .latches;
-        dropped = r .dropped;
-        unused = letGo-unused (r .unused);
-        settled = marked-settled s m (s TaskState) letting-go (r .objects) (r .slots) (r .settled);
-      }
+    letGo-blocks : holds (says blocks (letGo s t which))
+    unfolding letGo buryDoomed change
+    letGo-blocks b l k =
+        let x = r blocks b l k in
+        (λ e. x .0 (was-held-made b e), (λ e. lasting e (block-after b), λ e. gone (x .1 .1) e (block-after b)))
+      where
+        lasting : letGo s t which BlockState b ≡ doomed → BlockAfter s t which b → holds (isHeld (letGo s t which) b)
+        lasting e (block-stays n q) = go (decide (isHeld (letGo s t which) b))
+          where
+            go : Case (isHeld (letGo s t which) b) → holds (isHeld (letGo s t which) b)
+            go (it-does x) = x
+            go (it-does-not m) = absurd (n (sym q ∙ e, m))
+        lasting e (block-falls p n q) = absurd (omega arith)
 
-  pub letGo-keeps : holds (isRunning s t) → holds (kept s) → holds (kept (letGo s t which))
-  letGo-keeps run k = kept-from (letGo s t which) (letGo-rest (run .1 .1) (rest-of s k)) (letGo-outputs (outputs-of s k))
+        gone : (s BlockState b ≡ blockDestroyed → holds (isHeld s b) → ⊥) → letGo s t which BlockState b ≡ blockDestroyed
+            → BlockAfter s t which b → holds (isHeld (letGo s t which) b) → ⊥
+        gone f e (block-stays n q) x = f (sym q ∙ e) (was-isHeld b x)
+        gone f e (block-falls p n q) x = n x
 
-  -- the other fields are as they were (for a field that is written out each of the three is `refl`)
-  pub letGo-beside : (f : Field) → same SlotMark f ≡ false → same BlockHeld f ≡ false → same BlockState f ≡ false → (i : ℕ) → letGo s t which f i ≡ s f i
-  unfolding letGo buryDoomed change
-  letGo-beside f a b c i = rw (a, b, c)
+    shows : (n : Name) → Due letGoFields [] n → holds (says n (letGo s t which))
+    unfolding letGo buryDoomed change
+    shows blockParts due = λ b l. letGo-blockPart b (r blockParts b l)
+    shows roots due = marked-roots letting-go (r roots)
+    shows slots due = marked-slots letting-go (r slots)
+    shows states due = λ h l k. letGo-state h l (r states h l k)
+    shows blocks due = letGo-blocks
+    shows compatible due = λ i l e.
+        let x = r compatible i l (was-held i e) in
+        (λ k b y. x .0 k b (was-held k (y .0), y .1), λ y. x .1 (was-held-made (s SlotPayload i) (y .0), y .1))
+    shows freeSlots due = λ h l p j b. marked-noSlot letting-go (at h j) (r freeSlots h l p j b)
+    shows settled due = marked-settled letting-go r
+
+    pub letGo-keeps : Kept (letGo s t which)
+    letGo-keeps = kept-by [] (letGo-writes s t which) r shows
 
 -- who lets go of everything holds nothing
 module _ (s : Session) (t : ℕ) where

@@ -1,13 +1,30 @@
+-- The rules of a kept session by name, the fields that each reads, and what each effect writes
 pub mod Places
 pub mod SlotPlaces
-pub mod SlotModes
-pub mod Met
-pub mod Cases
-pub mod Kept
+pub mod Tables
+pub mod Outside
+pub mod Writes
+pub mod Shape
+pub mod Frame
+pub mod Parts
+pub mod Rows
+pub mod Keeping
+pub mod ByName
+pub mod Conjuncts
+-- What such a session says of an object, a slot, a hold or a descendant
 pub mod Counting
 pub mod Standing
+pub mod SlotModes
+pub mod Holding
 pub mod Under
+pub mod Unkept
+pub mod SoundTidy
+-- A call: its checks by number, and the two ways that it ends
+pub mod Met
+pub mod Accepted
+-- Kept: the making of objects
 pub mod Grown
+pub mod Born
 pub mod Making
 pub mod MakingOutputs
 pub mod Fresh
@@ -15,6 +32,7 @@ pub mod Template
 pub mod Event
 pub mod Block
 pub mod Task
+-- Kept: satisfactions, links and deliveries
 pub mod Renewing
 pub mod Firing
 pub mod SatisfyEvent
@@ -26,10 +44,10 @@ pub mod NewLink
 pub mod Dependence
 pub mod MarkLink
 pub mod Deliver
+-- Kept: holds, and tasks that move on, end or are destroyed
 pub mod Marks
 pub mod Moving
 pub mod LettingGo
-pub mod Holding
 pub mod Release
 pub mod Grant
 pub mod Start
@@ -41,16 +59,14 @@ pub mod DestroyEvent
 pub mod DestroyTask
 pub mod DestroyBlock
 pub mod Destroy
-pub mod StepKeeps
+-- What no operation takes back
 pub mod Lasting
 pub mod LastingEffects
 pub mod LastingOperations
-pub mod OneCall
-pub mod Runs
-pub mod Unkept
+-- The book: how it and the session agree, operation by operation
+pub mod Entries
 pub mod Relation
 pub mod Column
-pub mod Unmade
 pub mod RelatedFresh
 pub mod RelatedMake
 pub mod RelatedState
@@ -61,19 +77,23 @@ pub mod RelatedDeliver
 pub mod RelatedDestroyEvent
 pub mod RelatedDestroy
 pub mod RelatedEnd
-pub mod Entered
-pub mod RelatedStep
-pub mod RelatedRuns
-pub mod StartsOnce
+-- The falling count
 pub mod Left
 pub mod Falling
-pub mod Tidy
+-- Every operation: a record of what is proved of it, and what follows of every call and every list
+pub mod Operations
+pub mod OwnFields
+pub mod StepKeeps
+pub mod OneCall
+pub mod Runs
+pub mod RelatedStep
+pub mod RelatedRuns
+-- The five clauses of demand 3, and the theorem
+pub mod StartsOnce
 pub mod Living
+pub mod FinishFires
+pub mod Prefixes
+pub mod FiresFirst
 pub mod Bounded
 pub mod Stuck
-pub mod Prefixes
-pub mod FinishFires
-pub mod FiresFirst
 pub mod Demand
-pub mod OwnFields
-pub mod SoundTidy

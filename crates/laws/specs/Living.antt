@@ -7,16 +7,19 @@ use native.Mathlib.Omega.{arith}
 use native.Mathlib.Decide.{decLt}
 use Rattle.session.specs.Table.{Session}
 use Rattle.session.specs.declared.Field.the-variants.{Objects, Kind, TaskState, TaskCreator}
-use Rattle.session.specs.Names.{task, ended, taskDestroyed}
+use Rattle.session.specs.Names.{task, ended}
 use Rattle.rules.specs.Formula.{holds, not, Formula._≐_, Formula._and_, Formula.some}
 use Rattle.rules.specs.FormulaLaws.{Case, decide, Case.it-does, Case.it-does-not}
 use Rattle.rules.specs.Reading.{made, isLive, busy, under}
-use Rattle.rules.specs.Sound.{kept, taskPart}
+use Rattle.rules.specs.Sound.{kept}
 use Rattle.rules.specs.Book.{Book, Column, madeBy, live, descends, done}
-use Rattle.laws.specs.Kept.{rest-of}
+use Rattle.laws.specs.Rows.Name.{counts, kinds, taskParts}
+use Rattle.laws.specs.Keeping.{Kept}
+use Rattle.laws.specs.ByName.{by-name}
+use Rattle.laws.specs.Conjuncts.{task-by-name, Task.state-high, NoTask, no-task}
 use Rattle.laws.specs.Relation.{Marks, Related}
-use Rattle.laws.specs.Tidy.{Tidy}
-use Rattle.laws.specs.Under.{or-map, creator-falls}
+use Rattle.laws.specs.Relation.Clause.{same-kinds, same-makers, same-objects, blank-kinds, ended-agree, tasks-destroyed}
+use Rattle.laws.specs.Under.{or-map}
 
 -- a mark of 1 says what it marks, a mark of 0 that it is not so
 pub marked : (n m k : ℕ) → Marks (n ≡ m) k → k ≡ 1 → n ≡ m
@@ -46,7 +49,8 @@ under-made c none (suc n) h a l x = go (under-made c none n (c h) a l) x
     top zero y = y
     top (suc n) y = let z = y .0 in omega arith
 
-    go : (holds (madeBy c n a (c h)) → holds (under c n (c h) a)) → (c h ≡ a) ⊎ holds (madeBy c n a (c h)) → holds (under c (suc n) h a)
+    go : (holds (madeBy c n a (c h)) → holds (under c n (c h) a)) → (c h ≡ a) ⊎ holds (madeBy c n a (c h))
+        → holds (under c (suc n) h a)
     go r (inl e) = (omega arith, inl e)
     go r (inr y) = climb (decLt 0 (c h))
       where
@@ -55,87 +59,75 @@ under-made c none (suc n) h a l x = go (under-made c none n (c h) a l) x
         climb (no p) = let z : c h ≡ 0 = omega arith in absurd (top n (subst (λ (k : ℕ). holds (under c n k a)) z (r y)))
 
 module _ (s : Session) (b : Book) (k : holds (kept s)) (x : Related s b) where
+  h : Kept s
+  h = by-name s k
+
+  -- 0 is no task
+  null : NoTask s 0
+  null = no-task s 0 (λ e. let z = h kinds .0 in omega arith) (h taskParts 0 (omega arith))
+
   -- a task of the session that is not past running is live in the book
   pub live-here : (t : ℕ) → holds (isLive s t) → holds (live b t)
   live-here t u =
       let low = u .1 in
-      (x .shape .kinds t ∙ u .0, (x .ended t .1 (λ e. omega arith), x .tasks t (u .0) .1 (λ e. omega arith)))
-
-  -- the states of a task that was made
-  states-of : (t : ℕ) → t ≤ s Objects 0 → s Kind t ≡ task → (1 ≤ s TaskState t) × (s TaskState t ≤ taskDestroyed)
-  states-of t l e = go (rest-of s k .objects .1 t (omega arith) .1 .1 .0)
-    where
-      go : holds (taskPart s t) → (1 ≤ s TaskState t) × (s TaskState t ≤ taskDestroyed)
-      go (inl y) = (y .1 .0, y .1 .1 .0)
-      go (inr y) = absurd (y .0 e)
+      (x same-kinds t ∙ u .0, (x ended-agree t .1 (λ e. omega arith), x tasks-destroyed t (u .0) .1 (λ e. omega arith)))
 
   -- and back
   pub live-there : (t : ℕ) → t ≤ s Objects 0 → holds (live b t) → holds (isLive s t)
   live-there t l u =
-      let e : s Kind t ≡ task = sym (x .shape .kinds t) ∙ u .0 in
-      let h = states-of t l e .1 in
-      let n = unmarked (b Column.Ended t) (x .ended t) (u .1 .0) in
-      let d = unmarked (b Column.Destroyed t) (x .tasks t e) (u .1 .1) in
+      let e : s Kind t ≡ task = sym (x same-kinds t) ∙ u .0 in
+      let hi = task-by-name t s e (h taskParts t (let c = h counts in omega arith)) state-high in
+      let n = unmarked (b Column.Ended t) (x ended-agree t) (u .1 .0) in
+      let d = unmarked (b Column.Destroyed t) (x tasks-destroyed t e) (u .1 .1) in
       (e, omega arith)
 
   -- a task of the book is made
-  pub task-made : Tidy b → (t : ℕ) → b Column.Kind t ≡ task → holds (made s t) × (s Kind t ≡ task)
-  task-made y t e = (is-made t e, sym (x .shape .kinds t) ∙ e)
+  pub task-made : (t : ℕ) → b Column.Kind t ≡ task → holds (made s t) × (s Kind t ≡ task)
+  task-made t e = (is-made t e, sym (x same-kinds t) ∙ e)
     where
       is-made : (t : ℕ) → b Column.Kind t ≡ task → holds (made s t)
       is-made zero e =
-          let z = rest-of s k .objects .0 in
-          let q = x .shape .kinds 0 in
+          let z = h kinds .0 in
+          let q = x same-kinds 0 in
           absurd (omega arith)
-      is-made (suc t) e = (omega arith, go (decLt (b Column.Objects 0) (suc t)))
+      is-made (suc t) e = (omega arith, go (decLt (s Objects 0) (suc t)))
         where
-          go : Dec (b Column.Objects 0 < suc t) → suc t ≤ s Objects 0
-          go (yes l) = let z = y (suc t) l in absurd (omega arith)
-          go (no n) = let q = x .shape .objects in omega arith
+          go : Dec (s Objects 0 < suc t) → suc t ≤ s Objects 0
+          go (yes l) = let z = x blank-kinds (suc t) l in absurd (omega arith)
+          go (no n) = omega arith
 
   -- the same makers
   makers : b Column.Maker ≡ s TaskCreator
-  makers = fun-ext (x .shape .makers)
-
-  -- nobody made 0
-  no-creator : s TaskCreator 0 ≡ 0
-  no-creator = go (decLt 0 (s TaskCreator 0))
-    where
-      go : Dec (0 < s TaskCreator 0) → s TaskCreator 0 ≡ 0
-      go (yes p) = let f = creator-falls s (rest-of s k) 0 (omega arith) p in absurd (omega arith)
-      go (no n) = omega arith
+  makers = fun-ext (x same-makers)
 
   -- the same descendants
   pub descends-there : (t h : ℕ) → 1 ≤ t → holds (descends b t h) → holds (under (s TaskCreator) h h t)
-  descends-there t h p y = under-made (s TaskCreator) no-creator h h t p (subst (λ (c : ℕ → ℕ). holds (madeBy c h t h)) makers y)
+  descends-there t h p y =
+      under-made (s TaskCreator) (null .no-creator) h h t p (subst (λ (c : ℕ → ℕ). holds (madeBy c h t h)) makers y)
 
   pub descends-here : (t h : ℕ) → holds (under (s TaskCreator) h h t) → holds (descends b t h)
   descends-here t h y = subst (λ (c : ℕ → ℕ). holds (madeBy c h t h)) (sym makers) (made-under (s TaskCreator) h h t y)
 
   busy-there : (t : ℕ) → 1 ≤ t → holds (some (b Column.Objects 0 + 1) (λ h. live b h and descends b t h)) → holds (busy s t)
   busy-there t p y =
-      let q = x .shape .objects in
+      let q = x same-objects in
       let l : y .0 < s Objects 0 + 1 = let m = y .1 in omega arith in
       (y .0, l, (live-there (y .0) (omega arith) (y .2 .0), descends-there t (y .0) p (y .2 .1)))
 
   busy-here : (t : ℕ) → holds (busy s t) → holds (some (b Column.Objects 0 + 1) (λ h. live b h and descends b t h))
   busy-here t y =
-      let q = x .shape .objects in
+      let q = x same-objects in
       let l : y .0 < b Column.Objects 0 + 1 = let m = y .1 in omega arith in
       (y .0, l, (live-here (y .0) (y .2 .0), descends-here t (y .0) (y .2 .1)))
 
   -- what has ended is not 0
   ended-past : (t : ℕ) → s TaskState t ≡ ended → 1 ≤ t
-  ended-past zero e = go (rest-of s k .objects .1 0 (omega arith) .1 .1 .0)
-    where
-      go : holds (taskPart s 0) → 1 ≤ 0
-      go (inl y) = let z = rest-of s k .objects .0 in let w = y .0 in absurd (omega arith)
-      go (inr y) = let w = y .1 .0 in absurd (omega arith)
+  ended-past zero e = let z = null .no-state in absurd (omega arith)
   ended-past (suc t) e = omega arith
 
   -- done in the book: ended and not busy
   pub done-there : (t : ℕ) → holds (done b t) → holds (s TaskState t ≐ ended and not (busy s t))
-  done-there t y = (marked (s TaskState t) ended (b Column.Ended t) (x .ended t) (y .0), λ z. y .1 (busy-here t z))
+  done-there t y = (marked (s TaskState t) ended (b Column.Ended t) (x ended-agree t) (y .0), λ z. y .1 (busy-here t z))
 
   pub done-here : (t : ℕ) → holds (s TaskState t ≐ ended and not (busy s t)) → holds (done b t)
-  done-here t y = (x .ended t .0 (y .0), λ z. y .1 (busy-there t (ended-past t (y .0)) z))
+  done-here t y = (x ended-agree t .0 (y .0), λ z. y .1 (busy-there t (ended-past t (y .0)) z))

@@ -1,71 +1,78 @@
--- A ready link is marked as delivered: its slot is set apart until it is satisfied, and the count of the delivered links
--- rises by one.
-use Prim.Native.Nat.{ℕ, _+_, _≤_, _<_}
+-- A ready link is marked as delivered: its slot is set apart until it is satisfied, and the count of the delivered links rises
+-- by one. One field is written, the links' states.
+use Prim.Native.Nat.{ℕ, _+_, _≤_}
 use mathlib.Core.Path.{_≡_, refl, sym, subst, _∙_}
 use mathlib.Core.Logic.{_⊎_, inl, inr}
+use mathlib.Core.List.{[], _∷_}
 use native.Mathlib.Omega.{arith}
 use Rattle.session.specs.Table.{Session, put}
-use Rattle.session.specs.declared.Field.the-variants.{Links, Dropped, TaskState, SlotMark, LinkTarget, LinkSlot, LinkState}
-use Rattle.rules.specs.Formula.{Formula, holds, not, _iff_, count, Formula._≐_, Formula._and_, Formula.some}
-use Rattle.session.specs.Names.{taskDestroyed, linkOpen, ready, delivered, cut}
-use Rattle.rules.specs.Reading.{at}
-use Rattle.rules.specs.Sound.{slot, leadsTo, unclaimed, claimed, isLink, noLink, slots, links, oneLink, dropped, unused, settled}
-use Rattle.laws.specs.Places.{Places, places, put-here, put-there, Places.one, Places.two}
-use Rattle.laws.specs.Kept.{Rest}
+use Rattle.session.specs.declared.Field.the-variants.{Links, Dropped, EventState, LinkSource, LinkTarget, LinkSlot, LinkState}
+use Rattle.session.specs.Names.{ready, delivered}
+use Rattle.rules.specs.Formula.{Formula, holds, count, Formula._≐_}
+use Rattle.rules.specs.Sound.{slot, leadsTo, unclaimed, claimed, isLink, noLink}
+use Rattle.laws.specs.Outside.{Outside, outside-same, outside-put}
+use Rattle.laws.specs.Frame.{AllOf, DueOf, Shown.due}
+use Rattle.laws.specs.Rows.{Name, says}
+use Rattle.laws.specs.Rows.Name.{slots, links, dropped, freeLinks, settled}
+use Rattle.laws.specs.Keeping.{but, Due, kept-by, Kept}
+use Rattle.laws.specs.Conjuncts.{Claimed, claimed-says, claimed-row, claimed-by-name, claimed-lasts, pending, agrees}
+use Rattle.laws.specs.Conjuncts.{Linked, link-says, link-row, link-by-name, link-lasts, open-with, cut-with}
+use Rattle.laws.specs.Conjuncts.Linked.{agreeing}
+use Rattle.laws.specs.Conjuncts.Claimed.{waits, brought}
 use Rattle.laws.specs.Apart.{Apart}
+use Rattle.laws.specs.Places.{Places, places, put-here, put-there, Places.one, Places.two}
 use Rattle.laws.specs.Counting.{count-one}
+
+abbrev isDelivered : Session → ℕ → Formula
+isDelivered s i = s LinkState i ≐ delivered
 
 -- the session with link l delivered
 abbrev pub handed : Session → ℕ → Session
 handed s l = put s LinkState l delivered
 
-module _ (s : Session) (l : ℕ) (low : 1 ≤ l) (high : l ≤ s Links 0) (was : s LinkState l ≡ ready) where
+module _ (s : Session) (l : ℕ) (low : 1 ≤ l) (high : l ≤ s Links 0) (was : s LinkState l ≡ ready) (h : Kept s) where
+  writes : Outside s (handed s l) (LinkState ∷ [])
+  writes = outside-put l delivered (outside-same s)
+
   state-here : handed s l LinkState l ≡ delivered
   state-here = put-here s LinkState l l delivered refl
 
   state-there : (i : ℕ) → (l ≡ i → ⊥) → handed s l LinkState i ≡ s LinkState i
   state-there i n = put-there s LinkState l i delivered n
 
-  -- what was delivered is, and what is not delivered was not, and has the state that it had
-  still-delivered : (i : ℕ) → s LinkState i ≡ delivered → handed s l LinkState i ≡ delivered
-  still-delivered i e = state-there i (λ q. let x : s LinkState i ≡ ready = rw (← q) was in omega arith) ∙ e
-
+  -- what is not delivered was not
   undelivered : (i : ℕ) → (handed s l LinkState i ≡ delivered → ⊥) → s LinkState i ≡ delivered → ⊥
-  undelivered i n e = n (still-delivered i e)
+  undelivered i n e = n (state-there i (λ q. let x : s LinkState i ≡ ready = rw (← q) was in omega arith) ∙ e)
 
-  mark-links : holds (links s) → holds (links (handed s l))
+  was-pending : (t j : ℕ) → holds (pending (handed s l) t j) → holds (pending s t j)
   unfolding put
-  mark-links h i b = go (places l i) (h i b)
+  was-pending t j x = (x .0, x .1, (x .2 .0, undelivered (x .0) (x .2 .1)))
+
+  mark-link : (i : ℕ) → i ≡ 0 ⊎ holds (isLink s i) → i ≡ 0 ⊎ holds (isLink (handed s l) i)
+  unfolding put
+  mark-link i x = go (places l i) x
     where
       here : holds (isLink s l) → holds (isLink (handed s l) l)
-      here x =
-          let y = x .1 .1 .1 .1 in
-          let z = y .1 .1 .1 in
-          rw state-here (
-            x .0,
-            (
-              x .1 .0,
-              (
-                x .1 .1 .0,
+      here x = link-lasts l writes x shows
+        where
+          source : ℕ
+          source = s EventState (s LinkSource l)
+
+          a : holds (agrees (s LinkState l) source)
+          a = link-by-name l s x agreeing
+
+          shows : (n : Linked) → DueOf (link-row l) (LinkState ∷ []) n → holds (link-says l n (handed s l))
+          shows agreeing due =
+              rw state-here (
+                omega arith,
                 (
-                  x .1 .1 .1 .0,
+                  omega arith,
                   (
-                    y .0,
-                    (
-                      omega arith,
-                      (
-                        omega arith,
-                        (
-                          (λ e. absurd (omega arith), λ e. let o : s LinkState l ≡ linkOpen = z .0 .1 e in absurd (omega arith)),
-                          (λ e. absurd (omega arith), λ e. let o : s LinkState l ≡ cut = z .1 .1 e in absurd (omega arith)),
-                        ),
-                      ),
-                    ),
+                    (λ e. absurd (omega arith), λ e. let o = open-with (s LinkState l) source a .1 e in absurd (omega arith)),
+                    (λ e. absurd (omega arith), λ e. let o = cut-with (s LinkState l) source a .1 e in absurd (omega arith)),
                   ),
                 ),
-              ),
-            ),
-          )
+              )
 
       go : Places l i → i ≡ 0 ⊎ holds (isLink s i) → i ≡ 0 ⊎ holds (isLink (handed s l) i)
       go p (inl z) = inl z
@@ -73,82 +80,64 @@ module _ (s : Session) (l : ℕ) (low : 1 ≤ l) (high : l ≤ s Links 0) (was :
       go (two n) (inr x) = inr (rw (state-there i n) x)
 
   -- another slot's links have the states that they had
-  beside : (h k i : ℕ) → (s LinkTarget l ≡ h → s LinkSlot l ≡ k → ⊥) → holds (leadsTo s h k i) → handed s l LinkState i ≡ s LinkState i
-  beside h k i n x = state-there i (λ q. n (rw q (x .0)) (rw q (x .1)))
+  module _ (t j : ℕ) (other : s LinkTarget l ≡ t → s LinkSlot l ≡ j → ⊥) where
+    beside : (i : ℕ) → holds (leadsTo s t j i) → handed s l LinkState i ≡ s LinkState i
+    beside i x = state-there i (λ q. other (rw q (x .0)) (rw q (x .1)))
 
-  mark-claimed : (h k : ℕ) → (s LinkTarget l ≡ h → s LinkSlot l ≡ k → ⊥) → holds (claimed s h k) → holds (claimed (handed s l) h k)
-  unfolding put
-  mark-claimed h k n x =
-      let y = x .1 .1 .1 .1 in
-      (x .0, (x .1 .0, (x .1 .1 .0, (x .1 .1 .1 .0, (y .0, (lasts (y .1 .0), λ m i b o. y .1 .1 m i b (o .0, sym (beside h k i n (o .0)) ∙ o .1)))))))
-    where
-      open-link : Session → Formula
-      open-link r = some (r Links 0 + 1) (λ i. leadsTo r h k i and not (r LinkState i ≐ delivered))
+    still-pending : holds (pending s t j) → holds (pending (handed s l) t j)
+    unfolding put
+    still-pending x = (x .0, x .1, (x .2 .0, λ e. x .2 .1 (sym (beside (x .0) (x .2 .0)) ∙ e)))
 
-      was-open : holds (open-link (handed s l)) → holds (open-link s)
-      was-open z = (z .0, z .1, (z .2 .0, undelivered (z .0) (z .2 .1)))
+    mark-claimed : holds (claimed s t j) → holds (claimed (handed s l) t j)
+    unfolding put
+    mark-claimed x = claimed-lasts t j writes x shows
+      where
+        c : AllOf (claimed-row t j) s
+        c = claimed-by-name t j s x
 
-      now-open : holds (open-link s) → holds (open-link (handed s l))
-      now-open z = (z .0, z .1, (z .2 .0, λ e. z .2 .1 (sym (beside h k (z .0) n (z .2 .0)) ∙ e)))
+        waiting : holds (claimed-says t j waits s) → holds (claimed-says t j waits (handed s l))
+        waiting (inl e) = inl e
+        waiting (inr z) = inr (λ e. still-pending (z .0 e), λ o. z .1 (was-pending t j o))
 
-      lasts : s TaskState h ≡ taskDestroyed ⊎ holds (s SlotMark (at h k) ≐ 0 iff open-link s) → s TaskState h ≡ taskDestroyed ⊎ holds (s SlotMark (at h k) ≐ 0 iff open-link (handed s l))
-      lasts (inl e) = inl e
-      lasts (inr z) = inr (λ e. now-open (z .0 e), λ o. z .1 (was-open o))
+        shows : (n : Claimed) → DueOf (claimed-row t j) (LinkState ∷ []) n → holds (claimed-says t j n (handed s l))
+        shows waits due = waiting (c waits)
+        shows brought due = λ m i b o. c brought m i b (o .0, sym (beside i (o .0)) ∙ o .1)
 
-  mark-elsewhere : (h k : ℕ) → (s LinkTarget l ≡ h → s LinkSlot l ≡ k → ⊥) → holds (slot s h k) → holds (slot (handed s l) h k)
-  unfolding put
-  mark-elsewhere h k n (inl x) = inl (x .0, (x .1 .0, either (x .1 .1)))
-    where
-      either : holds (unclaimed s h k) ⊎ holds (claimed s h k) → holds (unclaimed (handed s l) h k) ⊎ holds (claimed (handed s l) h k)
-      either (inl y) = inl y
-      either (inr y) = inr (mark-claimed h k n y)
-  mark-elsewhere h k n (inr x) = inr x
-
-  mark-settled : holds (settled s) → holds (settled (handed s l))
-  unfolding put
-  mark-settled h t b k m y x = h t b k m y (x .0, x .1, (x .2 .0, undelivered (x .0) (x .2 .1)))
+    mark-slot : holds (slot s t j) → holds (slot (handed s l) t j)
+    unfolding put
+    mark-slot (inl x) = inl (x .0, (x .1 .0, either (x .1 .1)))
+      where
+        either : holds (unclaimed s t j) ⊎ holds (claimed s t j)
+            → holds (unclaimed (handed s l) t j) ⊎ holds (claimed (handed s l) t j)
+        either (inl y) = inl y
+        either (inr y) = inr (mark-claimed y)
+    mark-slot (inr x) = inr x
 
   -- one more delivered link
-  mark-count : count (s Links 0 + 1) (λ i. handed s l LinkState i ≐ delivered) ≡ 1 + count (s Links 0 + 1) (λ i. s LinkState i ≐ delivered)
+  mark-count : count (s Links 0 + 1) (isDelivered (handed s l)) ≡ 1 + count (s Links 0 + 1) (isDelivered s)
   mark-count =
-      count-one (s Links 0 + 1) (λ i. s LinkState i ≐ delivered) (λ i. handed s l LinkState i ≐ delivered) l (omega arith) (λ e. omega arith) state-here
+      count-one (s Links 0 + 1) (isDelivered s) (isDelivered (handed s l)) l (omega arith) (λ e. omega arith) state-here
       (λ i b n e. state-there i n ∙ e) (λ i b n e. sym (state-there i n) ∙ e)
 
-  pub mark-dropped-more : holds (dropped s) → s Dropped 0 + 1 ≤ count (s Links 0 + 1) (λ i. handed s l LinkState i ≐ delivered)
-  mark-dropped-more h = rw mark-count (omega arith)
-
-  mark-dropped : holds (dropped s) → holds (dropped (handed s l))
-  unfolding put
-  mark-dropped h = let x = mark-dropped-more h in omega arith
+  pub mark-dropped-more : s Dropped 0 + 1 ≤ count (s Links 0 + 1) (isDelivered (handed s l))
+  mark-dropped-more = let x = h dropped in rw mark-count (omega arith)
 
   mark-noLink : (i : ℕ) → (l ≡ i → ⊥) → holds (noLink s i) → holds (noLink (handed s l) i)
   unfolding put
-  mark-noLink i n x = (x .0, (x .1 .0, (x .1 .1 .0, state-there i n ∙ x .1 .1 .1)))
+  mark-noLink i n x = rw (state-there i n) x
 
-  mark-unused : holds (unused s) → holds (unused (handed s l))
+  shows : (n : Name) → Due (LinkState ∷ []) (slots ∷ []) n → holds (says n (handed s l))
   unfolding put
-  mark-unused h = (mark-noLink 0 (λ e. omega arith) (h .0), (h .1 .0, λ i b m. past i m (h .1 .1 i b m)))
-    where
-      past : (i : ℕ) → s Links 0 < i → holds (noLink s i) → holds (noLink (handed s l) i)
-      past i m x = mark-noLink i (λ e. omega arith) x
+  shows links due = λ i b. mark-link i (h links i b)
+  shows dropped due = let x = mark-dropped-more in omega arith
+  shows freeLinks due =
+      (mark-noLink 0 (λ e. omega arith) (h freeLinks .0), λ i b m. mark-noLink i (λ e. omega arith) (h freeLinks .1 i b m))
+  shows settled due = λ t b k m y x. h settled t b k m y (was-pending t k x)
 
-  -- the other rules read no link's state
-  pub mark-apart : Rest s → Apart (handed s l) (s LinkTarget l) (s LinkSlot l)
+  pub mark-apart : Apart (handed s l) (s LinkTarget l) (s LinkSlot l)
   unfolding put
-  mark-apart r =
+  mark-apart =
       record {
-        counts = r .counts;
-        objects = r .objects;
-        roots = r .roots;
-        creators = r .creators;
-        elsewhere = λ h b k m n. mark-elsewhere h k n (r .slots h b k m);
-        links = mark-links (r .links);
-        oneLink = r .oneLink;
-        states = r .states;
-        blocks = r .blocks;
-        compatible = r .compatible;
-        latches = r .latches;
-        dropped = mark-dropped (r .dropped);
-        unused = mark-unused (r .unused);
-        settled = mark-settled (r .settled);
+        others = kept-by (slots ∷ []) writes (but (slots ∷ []) h) shows;
+        elsewhere = λ t b k m n. mark-slot t k n (h slots t b k m);
       }

@@ -3,34 +3,47 @@
 use Prim.Native.Nat.{ℕ, _+_, _≤_, _<_}
 use mathlib.Core.Path.{_≡_}
 use mathlib.Core.Logic.{_⊎_, inl, inr}
+use mathlib.Core.List.{List, [], _∷_}
 use native.Mathlib.Omega.{arith}
 use Rattle.session.specs.Table.{Session, change}
+use Rattle.session.specs.declared.Field.{Field}
 use Rattle.session.specs.declared.Field.the-variants.{Objects, Kind, TaskState, TaskSlots, SlotMark, SlotPayload}
-use Rattle.rules.specs.Formula.{holds}
 use Rattle.session.specs.Names.{task, held, taskDestroyed}
+use Rattle.rules.specs.Formula.{holds}
 use Rattle.rules.specs.Reading.{at}
-use Rattle.rules.specs.Sound.{objects, roots, slots, slot, settled, unclaimed, claimed, noSlot, full}
-use Rattle.laws.specs.SlotPlaces.{few-slots}
+use Rattle.rules.specs.Sound.{slot, claimed, noSlot, full}
+use Rattle.laws.specs.Outside.{Outside, outside-same, outside-change}
+use Rattle.laws.specs.Frame.{AllOf, DueOf, Shown.due}
+use Rattle.laws.specs.Rows.{says}
+use Rattle.laws.specs.Rows.Name.{counts, taskParts, roots, slots, settled}
+use Rattle.laws.specs.Keeping.{Kept}
+use Rattle.laws.specs.Conjuncts.{Claimed, claimed-row, claimed-says, claimed-by-name, claimed-lasts, slot-place}
+use Rattle.laws.specs.Conjuncts.Claimed.{mark-high, empty, waits, brought}
+use Rattle.laws.specs.Conjuncts.{Root, root-row, root-says, roots-by-name, roots-last, Root.main-mark}
+use Rattle.laws.specs.SlotPlaces.{part-slots}
+
+-- a slot that a task has is below 16
+pub slot-low : (s : Session) → holds (says counts s) → holds (says taskParts s) → (h j : ℕ) → h < s Objects 0 + 1
+    → j < s TaskSlots h → j < 16
+slot-low s c t h j l b = let few = part-slots s h (t h (omega arith)) in omega arith
 
 -- a slot that is not satisfied has no payload
-pub no-payload : (s : Session) → holds (slots s) → (h j : ℕ) → h < s Objects 0 + 1 → j < 16 → s SlotMark (at h j) ≡ 0 → s SlotPayload (at h j) ≡ 0
-no-payload s o h j l m e = go (o h l j m)
+pub no-payload : (s : Session) → holds (says slots s) → (h j : ℕ) → h < s Objects 0 + 1 → j < 16 → s SlotMark (at h j) ≡ 0
+    → s SlotPayload (at h j) ≡ 0
+no-payload s o h j l m e = go (slot-place s h j (o h l j m))
   where
-    either : holds (unclaimed s h j) ⊎ holds (claimed s h j) → s SlotPayload (at h j) ≡ 0
-    either (inl x) = x .1 .1 .0
-    either (inr x) = x .1 .1 .1 .1 .0 e
-
-    go : holds (slot s h j) → s SlotPayload (at h j) ≡ 0
-    go (inl x) = either (x .1 .1)
-    go (inr x) = x .1 .1 .1
+    go : holds (noSlot s (at h j)) ⊎ holds (claimed s h j) → s SlotPayload (at h j) ≡ 0
+    go (inl x) = x .1 .1
+    go (inr x) = claimed-by-name h j s x empty e
 
 -- a slot with a payload is one that its task has
-pub payload-slot : (s : Session) → holds (slots s) → (h j : ℕ) → h < s Objects 0 + 1 → j < 16 → 1 ≤ s SlotPayload (at h j) → (s Kind h ≡ task) × (j < s TaskSlots h)
+pub payload-slot : (s : Session) → holds (says slots s) → (h j : ℕ) → h < s Objects 0 + 1 → j < 16 → 1 ≤ s SlotPayload (at h j)
+    → (s Kind h ≡ task) × (j < s TaskSlots h)
 payload-slot s o h j l m p = go (o h l j m)
   where
     go : holds (slot s h j) → (s Kind h ≡ task) × (j < s TaskSlots h)
-    go (inl x) = (x .0, x .1 .0)
-    go (inr x) = let z = x .1 .1 .1 in absurd (omega arith)
+    go (inl (kind, (low, x))) = (kind, low)
+    go (inr (past, (mode, (mark, payload)))) = absurd (omega arith)
 
 pub positive : (n : ℕ) → (n ≡ 0 → ⊥) → 1 ≤ n
 positive n f = omega arith
@@ -39,77 +52,81 @@ positive n f = omega arith
 abbrev pub marked : Session → (ℕ → ℕ) → (ℕ → ℕ) → Session
 marked s m ts = change (change s SlotMark m) TaskState ts
 
+abbrev fields : List Field
+fields = TaskState ∷ SlotMark ∷ []
+
 pub record Marking (s : Session) (m ts : ℕ → ℕ) : Type 0 where
   pub zero-stays : (i : ℕ) → s SlotPayload i ≡ 0 → s SlotMark i ≡ 0 → m i ≡ 0
   pub zero-was : (i : ℕ) → m i ≡ 0 → s SlotMark i ≡ 0
   pub low : (i : ℕ) → s SlotMark i ≤ held → m i ≤ held
   pub destroyed-stays : (h : ℕ) → s TaskState h ≡ taskDestroyed → ts h ≡ taskDestroyed
 
-module _ (s : Session) (m ts : ℕ → ℕ) (k : Marking s m ts) where
-  pub some-stays : (i : ℕ) → 1 ≤ s SlotMark i → 1 ≤ m i
+module _ {s : Session} {m ts : ℕ → ℕ} (k : Marking s m ts) where
+  writes : Outside s (marked s m ts) fields
+  writes = outside-change ts (outside-change m (outside-same s))
+
+  some-stays : (i : ℕ) → 1 ≤ s SlotMark i → 1 ≤ m i
   some-stays i h = positive (m i) (λ e. let z = k .zero-was i e in omega arith)
 
-  pub some-was : (i : ℕ) → (s SlotMark i ≡ 0 → s SlotPayload i ≡ 0) → 1 ≤ m i → 1 ≤ s SlotMark i
+  some-was : (i : ℕ) → (s SlotMark i ≡ 0 → s SlotPayload i ≡ 0) → 1 ≤ m i → 1 ≤ s SlotMark i
   some-was i f h = positive (s SlotMark i) (λ e. let z = k .zero-stays i (f e) e in omega arith)
 
-  pub marked-roots : holds (roots s) → holds (roots (marked s m ts))
+  pub marked-roots : holds (says roots s) → holds (says roots (marked s m ts))
   unfolding change
-  marked-roots h =
-      let x = h .1 .1 .1 .1 .1 .1 in
-      (h .0, (h .1 .0, (h .1 .1 .0, (h .1 .1 .1 .0, (h .1 .1 .1 .1 .0, (h .1 .1 .1 .1 .1 .0, (x .0, (x .1 .0, (some-stays (at 2 0) (x .1 .1 .0), x .1 .1 .1)))))))))
+  marked-roots h = roots-last writes h shows
+    where
+      shows : (n : Root) → DueOf root-row fields n → holds (root-says n (marked s m ts))
+      shows main-mark due = some-stays (at 2 0) (roots-by-name s h main-mark)
 
   pub marked-noSlot : (i : ℕ) → holds (noSlot s i) → holds (noSlot (marked s m ts) i)
   unfolding change
-  marked-noSlot i x = (x .0, (k .zero-stays i (x .1 .1) (x .1 .0), x .1 .1))
-
-  marked-unclaimed : (h j : ℕ) → holds (unclaimed s h j) → holds (unclaimed (marked s m ts) h j)
-  unfolding change
-  marked-unclaimed h j x = (x .0, (k .zero-stays (at h j) (x .1 .1 .0) (x .1 .0), x .1 .1))
+  marked-noSlot i (mode, (mark, payload)) = (mode, (k .zero-stays i payload mark, payload))
 
   marked-claimed : (h j : ℕ) → holds (claimed s h j) → holds (claimed (marked s m ts) h j)
   unfolding change
-  marked-claimed h j x =
-      let i = at h j in
-      let y = x .1 .1 .1 .1 in
-      (x .0, (x .1 .0, (k .low i (x .1 .1 .0), (x .1 .1 .1 .0, ((λ e. y .0 (k .zero-was i e)), (link (y .0) (y .1 .0), λ l. y .1 .1 (some-was i (y .0) l)))))))
+  marked-claimed h j x = claimed-lasts h j writes x shows
     where
-      link : {L : Type 0} → (s SlotMark (at h j) ≡ 0 → s SlotPayload (at h j) ≡ 0)
-          → s TaskState h ≡ taskDestroyed ⊎ ((s SlotMark (at h j) ≡ 0 → L) × (L → s SlotMark (at h j) ≡ 0))
-          → ts h ≡ taskDestroyed ⊎ ((m (at h j) ≡ 0 → L) × (L → m (at h j) ≡ 0))
-      link f (inl e) = inl (k .destroyed-stays h e)
-      link f (inr x) = inr (λ e. x .0 (k .zero-was (at h j) e), λ l. k .zero-stays (at h j) (f (x .1 l)) (x .1 l))
+      i : ℕ
+      i = at h j
+
+      c : AllOf (claimed-row h j) s
+      c = claimed-by-name h j s x
+
+      waiting : holds (claimed-says h j waits s) → holds (claimed-says h j waits (marked s m ts))
+      waiting (inl e) = inl (k .destroyed-stays h e)
+      waiting (inr y) = inr (λ e. y .0 (k .zero-was i e), λ l. k .zero-stays i (c empty (y .1 l)) (y .1 l))
+
+      shows : (n : Claimed) → DueOf (claimed-row h j) fields n → holds (claimed-says h j n (marked s m ts))
+      shows mark-high due = k .low i (c mark-high)
+      shows empty due = λ e. c empty (k .zero-was i e)
+      shows waits due = waiting (c waits)
+      shows brought due = λ l. c brought (some-was i (c empty) l)
 
   marked-slot : (h j : ℕ) → holds (slot s h j) → holds (slot (marked s m ts) h j)
   unfolding change
-  marked-slot h j x = go x
-    where
-      either : holds (unclaimed s h j) ⊎ holds (claimed s h j) → holds (unclaimed (marked s m ts) h j) ⊎ holds (claimed (marked s m ts) h j)
-      either (inl x) = inl (marked-unclaimed h j x)
-      either (inr x) = inr (marked-claimed h j x)
+  marked-slot h j (inl (kind, (low, inl (mode, (mark, (payload, n)))))) =
+      inl (kind, (low, inl (mode, (k .zero-stays (at h j) payload mark, (payload, n)))))
+  marked-slot h j (inl (kind, (low, inr x))) = inl (kind, (low, inr (marked-claimed h j x)))
+  marked-slot h j (inr (past, x)) = inr (past, marked-noSlot (at h j) x)
 
-      go : holds (slot s h j) → holds (slot (marked s m ts) h j)
-      go (inl x) = inl (x .0, (x .1 .0, either (x .1 .1)))
-      go (inr x) = inr (x .0, marked-noSlot (at h j) (x .1))
-
-  pub marked-slots : holds (slots s) → holds (slots (marked s m ts))
+  pub marked-slots : holds (says slots s) → holds (says slots (marked s m ts))
   unfolding change
   marked-slots o h l j b = marked-slot h j (o h l j b)
 
-  pub marked-settled : holds (objects s) → holds (slots s) → holds (settled s) → holds (settled (marked s m ts))
-  unfolding change
-  marked-settled o x q h l j b p = q h l j b (some-was (at h j) (λ e. no-payload s x h j l low16 e) p)
-    where
-      low16 : j < 16
-      low16 = let f = few-slots s o h l in omega arith
-
-  -- a slot that was satisfied still is, and the other way round
+  -- a slot that was satisfied still is
   pub marked-full : (h : ℕ) → holds (full s h) → holds (full (marked s m ts) h)
   unfolding change
   marked-full h f j b = some-stays (at h j) (f j b)
 
-  pub marked-was-full : (h : ℕ) → holds (objects s) → holds (slots s) → h < s Objects 0 + 1 → holds (full (marked s m ts) h) → holds (full s h)
+  -- and the other way round
+  module _ (r : Kept s) (h : ℕ) (l : h < s Objects 0 + 1) where
+    slot-was : (j : ℕ) → j < s TaskSlots h → 1 ≤ m (at h j) → 1 ≤ s SlotMark (at h j)
+    slot-was j b = some-was (at h j) (no-payload s (r slots) h j l (slot-low s (r counts) (r taskParts) h j l b))
+
+    pub marked-was-full : holds (full (marked s m ts) h) → holds (full s h)
+    unfolding change
+    marked-was-full f j b = slot-was j b (f j b)
+
+  pub marked-settled : Kept s → holds (says settled (marked s m ts))
   unfolding change
-  marked-was-full h o x l f j b = some-was (at h j) (λ e. no-payload s x h j l low16 e) (f j b)
-    where
-      low16 : j < 16
-      low16 = let f = few-slots s o h l in omega arith
+  marked-settled r h l j b p = r settled h l j b (slot-was r h l j b p)

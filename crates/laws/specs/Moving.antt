@@ -1,24 +1,29 @@
 -- A task that does not run yet moves to another state before its end, as by a grant or a start: what the rules say of
 -- creators, outputs, blocks and slots lasts, since no descendant comes or goes and no running task stops.
-use Prim.Native.Nat.{ℕ, _+_, _≤_}
+use Prim.Native.Nat.{ℕ, _≤_}
 use mathlib.Core.Path.{_≡_, sym, _∙_}
 use mathlib.Core.Logic.{_⊎_, inl, inr}
+use mathlib.Core.List.{[], _∷_}
 use native.Mathlib.Omega.{arith}
 use Rattle.session.specs.Table.{Session, put}
-use Rattle.session.specs.declared.Field.the-variants.{Kind, TaskState, TaskCreator, TaskFinish, EventState}
-use Rattle.rules.specs.Formula.{Formula, holds, not, Formula._≐_, Formula._and_, Formula._or_}
-use Rattle.session.specs.Names.{running, granted, ended, task, taskDestroyed, fired, destroyedUnfired}
+use Rattle.session.specs.declared.Field.the-variants.{Kind, TaskState, TaskCreator, TaskFinish}
+use Rattle.rules.specs.Formula.{holds}
+use Rattle.session.specs.Names.{running, granted, ended, task, taskDestroyed}
 use Rattle.rules.specs.Reading.{busy}
-use Rattle.rules.specs.Sound.{taskPart, objects, creators, creator, outputs, outputOf, unused}
+use Rattle.rules.specs.Sound.{taskPart, creators, creator, outputs, outputOf}
+use Rattle.laws.specs.Outside.{Outside, outside-same, outside-put}
+use Rattle.laws.specs.Frame.{AllOf, DueOf, Shown.due}
+use Rattle.laws.specs.Conjuncts.{Task, task-row, task-says, task-lasts, Task.state-low, Task.state-high}
+use Rattle.laws.specs.Conjuncts.{Output, output-row, output-says, output-by-name, output-lasts}
+use Rattle.laws.specs.Conjuncts.Output.{fires-with, goes-with}
 use Rattle.laws.specs.Places.{Places, places, put-here, put-there, Places.one, Places.two}
 
 -- task t in state v
 abbrev pub move : Session → ℕ → ℕ → Session
 move s t v = put s TaskState t v
 
--- task i has ended and, for finish, no descendant is live
-abbrev ends : Session → ℕ → Formula
-ends s i = s TaskState i ≐ ended and (s TaskFinish i ≐ 0 or not (busy s i))
+pub move-writes : (s : Session) (t v : ℕ) → Outside s (move s t v) (TaskState ∷ [])
+move-writes s t v = outside-put t v (outside-same s)
 
 -- a task's state after: v at t, and as it was elsewhere
 pub data Moved (s : Session) (t v i : ℕ) : Type 0 where
@@ -36,20 +41,15 @@ after-move s t v i = go (places t i)
 module _ (s : Session) (t v : ℕ) (kind : s Kind t ≡ task) (some : 1 ≤ v) (high : v ≤ taskDestroyed) where
   pub move-taskPart : (i : ℕ) → holds (taskPart s i) → holds (taskPart (move s t v) i)
   unfolding put
-  move-taskPart i x = go (after-move s t v i) x
+  move-taskPart i x = go (after-move s t v i)
     where
-      go : Moved s t v i → holds (taskPart s i) → holds (taskPart (move s t v) i)
-      go (state-stays e) x = rw e x
-      go (state-moves p e) (inl x) = rw e (inl (x .0, (some, (high, x .1 .1 .1))))
-      go (state-moves p e) (inr x) = absurd (x .0 (rw (← p) kind))
-
-  pub move-objects : holds (objects s) → holds (objects (move s t v))
-  unfolding put
-  move-objects h = (h .0, λ i l. let x = h .1 i l in (x .0, (x .1 .0, (move-taskPart i (x .1 .1 .0), x .1 .1 .1))))
-
-  pub move-unused : holds (unused s) → holds (unused (move s t v))
-  unfolding put
-  move-unused h = (h .0, (λ i l g. let x = h .1 .0 i l g in (x .0, (x .1 .0, (move-taskPart i (x .1 .1 .0), x .1 .1 .1))), h .1 .1))
+      go : Moved s t v i → holds (taskPart (move s t v) i)
+      go (state-stays e) = rw e x
+      go (state-moves p e) = task-lasts i (move-writes s t v) (rw (← p) kind) x shows
+        where
+          shows : (n : Task) → DueOf (task-row i) (TaskState ∷ []) n → holds (task-says i n (move s t v))
+          shows state-low due = rw e some
+          shows state-high due = rw e high
 
 -- where no task comes to live, none becomes busy
 pub move-busy : (s : Session) (t v : ℕ) → ((i : ℕ) → move s t v TaskState i ≤ running → s TaskState i ≤ running)
@@ -57,7 +57,8 @@ pub move-busy : (s : Session) (t v : ℕ) → ((i : ℕ) → move s t v TaskStat
 unfolding put
 move-busy s t v was-live a x = (x .0, x .1, ((x .2 .0 .0, was-live (x .0) (x .2 .0 .1)), x .2 .1))
 
-module _ (s : Session) (t v : ℕ) (kind : s Kind t ≡ task) (was : s TaskState t ≤ granted) (some : 1 ≤ v) (is : v ≤ running) where
+module _ (s : Session) (t v : ℕ) (kind : s Kind t ≡ task) (was : s TaskState t ≤ granted) (some : 1 ≤ v)
+    (is : v ≤ running) where
   was-at : (i : ℕ) → t ≡ i → s TaskState i ≤ granted
   was-at i e = rw (← e) was
 
@@ -95,13 +96,14 @@ module _ (s : Session) (t v : ℕ) (kind : s Kind t ≡ task) (was : s TaskState
   unfolding put
   move-creators h i l k = go (h i l k)
     where
-      lasts : s TaskState (s TaskCreator i) ≡ running ⊎ s TaskState (s TaskCreator i) ≡ ended → move s t v TaskState (s TaskCreator i) ≡ running ⊎ move s t v TaskState (s TaskCreator i) ≡ ended
+      lasts : s TaskState (s TaskCreator i) ≡ running ⊎ s TaskState (s TaskCreator i) ≡ ended
+          → move s t v TaskState (s TaskCreator i) ≡ running ⊎ move s t v TaskState (s TaskCreator i) ≡ ended
       lasts (inl e) = inl (still running (omega arith) (s TaskCreator i) e)
       lasts (inr e) = inr (still ended (omega arith) (s TaskCreator i) e)
 
       go : holds (creator s i) → holds (creator (move s t v) i)
       go (inl e) = inl e
-      go (inr x) = inr (x .0, (x .1 .0, (x .1 .1 .0, lasts (x .1 .1 .1))))
+      go (inr (made, (lower, (k, state)))) = inr (made, (lower, (k, lasts state)))
 
   -- no descendant goes or comes
   was-busy : (a : ℕ) → holds (busy (move s t v) a) → holds (busy s a)
@@ -113,15 +115,11 @@ module _ (s : Session) (t v : ℕ) (kind : s Kind t ≡ task) (was : s TaskState
 
   move-outputOf : (i : ℕ) → holds (outputOf s i) → holds (outputOf (move s t v) i)
   unfolding put
-  move-outputOf i x =
-      let f = x .1 .1 .1 .0 in
-      let d = x .1 .1 .1 .1 .0 in
-      let fires : (s EventState (i + 1) ≡ fired → holds (ends (move s t v) i)) × (holds (ends (move s t v) i) → s EventState (i + 1) ≡ fired) =
-      (λ e. (still ended (omega arith) i (f .0 e .0), quiet (f .0 e .1)), λ y. f .1 (stood ended (omega arith) i (y .0), was-quiet (y .1))) in
-      let goes : (s EventState (i + 1) ≡ destroyedUnfired → move s t v TaskState i ≡ taskDestroyed) × (move s t v TaskState i ≡ taskDestroyed → s EventState (i + 1) ≡ destroyedUnfired) =
-      (λ e. still taskDestroyed (omega arith) i (d .0 e), λ e. d .1 (stood taskDestroyed (omega arith) i e)) in
-      (x .0, (x .1 .0, (x .1 .1 .0, (fires, (goes, x .1 .1 .1 .1 .1)))))
+  move-outputOf i x = output-lasts i (move-writes s t v) x shows
     where
+      o : AllOf (output-row i) s
+      o = output-by-name i s x
+
       quiet : s TaskFinish i ≡ 0 ⊎ (holds (busy s i) → ⊥) → s TaskFinish i ≡ 0 ⊎ (holds (busy (move s t v) i) → ⊥)
       quiet (inl e) = inl e
       quiet (inr n) = inr (λ x. n (was-busy i x))
@@ -129,6 +127,16 @@ module _ (s : Session) (t v : ℕ) (kind : s Kind t ≡ task) (was : s TaskState
       was-quiet : s TaskFinish i ≡ 0 ⊎ (holds (busy (move s t v) i) → ⊥) → s TaskFinish i ≡ 0 ⊎ (holds (busy s i) → ⊥)
       was-quiet (inl e) = inl e
       was-quiet (inr n) = inr (λ x. n (still-busy i x))
+
+      shows : (n : Output) → DueOf (output-row i) (TaskState ∷ []) n → holds (output-says i n (move s t v))
+      shows fires-with due = (
+        λ e. let y = o fires-with .0 e in (still ended (omega arith) i (y .0), quiet (y .1)),
+        λ y. o fires-with .1 (stood ended (omega arith) i (y .0), was-quiet (y .1)),
+      )
+      shows goes-with due = (
+        λ e. still taskDestroyed (omega arith) i (o goes-with .0 e),
+        λ e. o goes-with .1 (stood taskDestroyed (omega arith) i e),
+      )
 
   pub move-outputs : holds (outputs s) → holds (outputs (move s t v))
   unfolding put

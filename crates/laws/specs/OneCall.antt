@@ -1,41 +1,24 @@
 -- One call, on any session: a refusal changes nothing, and an accepted operation undoes nothing that lasts.
 use Prim.Native.Nat.{ℕ, _≤_}
 use mathlib.Core.Path.{_≡_}
-use native.Mathlib.Omega.{arith}
 use Rattle.session.specs.Table.{Session}
-use Rattle.session.specs.declared.Field.the-variants.{Objects, Links, Kind, TaskState, TaskCreator, EventState, EventPayload, BlockCreator, SlotMark, SlotPayload, LinkSource, LinkTarget, LinkSlot, LinkState}
+use Rattle.session.specs.declared.Field.the-variants.{Objects, Links, Kind, TaskState, TaskCreator, EventState, EventPayload}
+use Rattle.session.specs.declared.Field.the-variants.{BlockCreator, SlotMark, SlotPayload, LinkSource, LinkTarget, LinkSlot}
+use Rattle.session.specs.declared.Field.the-variants.{LinkState}
 use Rattle.rules.specs.declared.Operation.{Operation}
-use Rattle.rules.specs.Formula.{holds}
 use Rattle.session.specs.Names.{delivered, cut}
-use Rattle.rules.specs.Sound.{sound}
-use Rattle.rules.specs.Step.{after, step}
-use Rattle.laws.specs.Cases.{Accepted, Called, called, Called.refused, Called.accepted, Accepted.by-template, Accepted.by-task, Accepted.by-event, Accepted.by-block, Accepted.by-dependence, Accepted.by-satisfaction, Accepted.by-release, Accepted.by-destroy, Accepted.by-delivery, Accepted.by-grant, Accepted.by-start, Accepted.by-end}
+use Rattle.rules.specs.Step.{step}
+use Rattle.laws.specs.Accepted.{Called, called, Called.refused, Called.accepted}
+use Rattle.laws.specs.Operations.{accepted-later}
 use Rattle.laws.specs.Lasting.{HadFired, Later, later-same}
-use Rattle.laws.specs.LastingEffects.{later-newTemplate, later-newEvent, later-newBlock, later-makeTask}
-use Rattle.laws.specs.LastingOperations.{ground, later-depend, later-satisfaction, later-release, later-destroy, later-deliver, later-grant, later-start, later-end}
 
--- an accepted operation undoes nothing
-pub accepted-later : (s : Session) (o : Operation) → holds (sound s) → Accepted s o → Later s (after s o)
-accepted-later s o h (by-template c m a w) = rw a (later-newTemplate s _)
-accepted-later s o h (by-task c m a w) = rw a (later-makeTask s _ _ _ _)
-accepted-later s o h (by-event c m a w) = rw a (later-newEvent _ _ (later-same s) (omega arith))
-accepted-later s o h (by-block c m a w) = rw a (later-newBlock s _ _)
-accepted-later s o h (by-dependence c m a w) = rw a (later-depend s (ground s h) _ _ _ _ _ m)
-accepted-later s o h (by-satisfaction c m a w) = rw a (later-satisfaction s (ground s h) _ _ _ _ m)
-accepted-later s o h (by-release c m a w) = rw a (later-release s _ _)
-accepted-later s o h (by-destroy c m a w) = rw a (later-destroy s (ground s h) _ _ m)
-accepted-later s o h (by-delivery c m a w) = rw a (later-deliver s (ground s h) _ m)
-accepted-later s o h (by-grant c m a w) = rw a (later-grant s _ m)
-accepted-later s o h (by-start c m a w) = rw a (later-start s _ m)
-accepted-later s o h (by-end c m a w) = rw a (later-end s (ground s h) _ _ m)
-
--- and so a call undoes nothing
+-- a call undoes nothing
 pub one-call : (s : Session) (o : Operation) → Later s (step s o .leaves)
 one-call s o = go (called s o)
   where
     go : Called s o → Later s (step s o .leaves)
     go (refused n w e) = rw e (later-same s)
-    go (accepted h n w e a) = rw e (accepted-later s o h a)
+    go (accepted h n w e a) = rw e (accepted-later s o a h)
 
 -- a refusal makes nothing and leaves the session as it was
 pub refusal-stays : (s : Session) (o : Operation) → (step s o .refused ≡ 0 → ⊥) → step s o .leaves ≡ s

@@ -4,10 +4,15 @@ use mathlib.Core.Path.{_≡_, refl}
 use native.Mathlib.Omega.{arith}
 use Rattle.session.specs.Table.{put, at}
 use Rattle.session.specs.Fresh.{emptySession, firstObjects, freshSession}
-use Rattle.session.specs.Names.{template, task, block, fresh, resolved, ended, satisfied}
+use Rattle.session.specs.Names.{template, task, block, fresh, resolved, satisfied}
 use Rattle.rules.specs.Formula.{test}
 use Rattle.rules.specs.Book.{opening, enter}
 use Rattle.laws.specs.Relation.{Related, SlotAgrees}
+use Rattle.laws.specs.Relation.Clause.{same-objects, same-links, same-kinds, same-types, same-makers, same-finishes}
+use Rattle.laws.specs.Relation.Clause.{same-outputs, same-sources, same-targets, same-slots, task-counts, template-counts}
+use Rattle.laws.specs.Relation.Clause.{slots-agree, ended-agree, starts-agree, tasks-destroyed, blocks-destroyed}
+use Rattle.laws.specs.Relation.Clause.{fired-has, open-has, satisfied-agree, struck-agree, blank-kinds, blank-times}
+use Rattle.laws.specs.Relation.Clause.{blank-satisfied, blank-has, blank-starts, blank-ended, blank-destroyed, blank-struck}
 use Rattle.laws.specs.Places.{Places, places, Places.one, Places.two}
 use Rattle.laws.specs.Column.{set, at-set, set-here, set-there, was-kind, blank-set, unfired}
 
@@ -37,38 +42,32 @@ fresh-slot i = go (places 32 i)
 
 pub related-fresh : Related freshSession opening
 unfolding opening enter test freshSession firstObjects emptySession put
-related-fresh =
-    record {
-      shape = record {
-        objects = refl;
-        links = refl;
-        kinds = λ i. refl;
-        types = λ i. refl;
-        makers = λ i. refl;
-        task-counts = λ i e. refl;
-        template-counts = λ i e. absurd (kind-no-template i e);
-        finishes = λ i. refl;
-        outputs = λ i. refl;
-        sources = λ i. refl;
-        targets = λ i. refl;
-        link-slots = λ i. refl;
-      };
-      slots = λ h l k d j m. fresh-slot (at h j);
-      ended = λ h. (λ e. let l = low-state h in absurd (omega arith), λ n. refl);
-      starts = λ h. (λ e. let l = low-state h in absurd (omega arith), λ n. refl);
-      tasks = λ h k. (λ e. let l = low-state h in absurd (omega arith), λ n. refl);
-      blocks = λ h k. (λ e. let l = low-block h in absurd (omega arith), λ n. refl);
-      payloads = λ e f. refl;
-      nothing-yet = λ e o. refl;
-      satisfied = λ e l. (λ o. refl, λ f. absurd (unfired 0 (omega arith) (omega arith) f));
-      struck = λ l a c. (λ e. absurd (omega arith), λ n. refl);
-      unmade = record {
-        times = blank-set 47 nothing 32 1 (omega arith) (λ i l. refl);
-        satisfied = λ i l. refl;
-        has = λ i l. refl;
-        starts = λ i l. refl;
-        ended = λ i l. refl;
-        destroyed = λ i l. refl;
-        struck = λ i l. refl;
-      };
-    }
+related-fresh same-objects = refl
+related-fresh same-links = refl
+related-fresh same-kinds = λ i. refl
+related-fresh same-types = λ i. refl
+related-fresh same-makers = λ i. refl
+related-fresh same-finishes = λ i. refl
+related-fresh same-outputs = λ i. refl
+related-fresh same-sources = λ i. refl
+related-fresh same-targets = λ i. refl
+related-fresh same-slots = λ i. refl
+related-fresh task-counts = λ i e. refl
+related-fresh template-counts = λ i e. absurd (kind-no-template i e)
+related-fresh slots-agree = λ h l k d j m. fresh-slot (at h j)
+related-fresh ended-agree = λ h. (λ e. let l = low-state h in absurd (omega arith), λ n. refl)
+related-fresh starts-agree = λ h. (λ e. let l = low-state h in absurd (omega arith), λ n. refl)
+related-fresh tasks-destroyed = λ h k. (λ e. let l = low-state h in absurd (omega arith), λ n. refl)
+related-fresh blocks-destroyed = λ h k. (λ e. let l = low-block h in absurd (omega arith), λ n. refl)
+related-fresh fired-has = λ e f. refl
+related-fresh open-has = λ e o. refl
+related-fresh satisfied-agree = λ e l. (λ o. refl, λ f. absurd (unfired 0 (omega arith) (omega arith) f))
+related-fresh struck-agree = λ l a c. (λ e. absurd (omega arith), λ n. refl)
+related-fresh blank-kinds = blank-set 2 task (omega arith) (blank-set 1 block (omega arith) (λ i l. refl))
+related-fresh blank-times = blank-set 32 1 (omega arith) (λ i l. refl)
+related-fresh blank-satisfied = λ i l. refl
+related-fresh blank-has = λ i l. refl
+related-fresh blank-starts = λ i l. refl
+related-fresh blank-ended = λ i l. refl
+related-fresh blank-destroyed = λ i l. refl
+related-fresh blank-struck = λ i l. refl

@@ -5,9 +5,9 @@ use Rattle.rules.specs.declared.Operation.{Operation}
 use Rattle.rules.specs.Formula.{holds, choose}
 use Rattle.rules.specs.FormulaLaws.{Case, decide, choose-yes, choose-no, Case.it-does, Case.it-does-not}
 use Rattle.rules.specs.Sound.{kept}
-use Rattle.rules.specs.Step.{freshSession, step}
-use Rattle.rules.specs.Book.{Book, book, entered, opening}
-use Rattle.rules.specs.Demand.{accepted, next, run, calls, sessionAfter, bookAfter}
+use Rattle.rules.specs.Step.{freshSession, step, entered}
+use Rattle.rules.specs.Book.{Book, opening}
+use Rattle.rules.specs.Demand.{accepted, next, run, calls, sessionAfter, bookAfter, book}
 use Rattle.laws.specs.Fresh.{fresh-kept}
 use Rattle.laws.specs.StepKeeps.{step-keeps}
 use Rattle.laws.specs.OneCall.{refusal-stays}
@@ -16,7 +16,8 @@ use Rattle.laws.specs.RelatedFresh.{related-fresh}
 use Rattle.laws.specs.RelatedStep.{related-step}
 
 -- one call: entered if it was accepted
-pub related-next : (s : Session) (b : Book) (o : Operation) → holds (kept s) → Related s b → Related (next s o) (choose (accepted s o) (entered b o) b)
+pub related-next : (s : Session) (b : Book) (o : Operation) → holds (kept s) → Related s b
+    → Related (next s o) (choose (accepted s o) (entered b o) b)
 unfolding next accepted
 related-next s b o k r = go (decide (accepted s o))
   where
@@ -24,10 +25,12 @@ related-next s b o k r = go (decide (accepted s o))
     go (it-does a) = rw (choose-yes (accepted s o) (entered b o) b a) (related-step s b o k r a)
     go (it-does-not n) = rw (choose-no (accepted s o) (entered b o) b n, refusal-stays s o n) r
 
-pub related-run : (s : Session) (b : Book) (os : List Operation) → holds (kept s) → Related s b → Related (run s os) (book b (calls s os))
+pub related-run : (s : Session) (b : Book) (os : List Operation) → holds (kept s) → Related s b
+    → Related (run s os) (book b (calls s os))
 unfolding run calls book next
 related-run s b [] k r = r
-related-run s b (o ∷ os) k r = related-run (next s o) (choose (accepted s o) (entered b o) b) os (step-keeps s o k) (related-next s b o k r)
+related-run s b (o ∷ os) k r =
+    related-run (next s o) (choose (accepted s o) (entered b o) b) os (step-keeps s o k) (related-next s b o k r)
 
 pub always-related : (os : List Operation) → Related (sessionAfter os) (bookAfter os)
 always-related os = related-run freshSession opening os fresh-kept related-fresh

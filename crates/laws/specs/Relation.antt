@@ -1,11 +1,26 @@
--- The relation between a session and the book of demand 3: what both say of everything that is not destroyed. A part of it is
--- stated over the columns and fields that it reads, so that what an operation does not touch carries over as it stands.
+-- The relation between a session and the book of demand 3: what both say of everything that is not destroyed. It has clauses by
+-- name, each with the fields and the columns that it reads: after a change of both only the clauses that read what is written are
+-- shown, and the others last.
 use Prim.Native.Nat.{ℕ, _+_, _≤_, _<_}
-use mathlib.Core.Path.{_≡_}
-use Rattle.session.specs.Table.{Session, at}
-use Rattle.session.specs.declared.Field.the-variants.{Objects, Links, Kind, TemplateCount, TaskState, TaskCreator, TaskSlots, TaskFinish, TaskOutput, EventState, EventType, EventPayload, BlockState, SlotMark, SlotPayload, LinkSource, LinkTarget, LinkSlot, LinkState}
-use Rattle.session.specs.Names.{template, task, block, running, ended, taskDestroyed, eventOpen, sticky, doomed, delivered}
-use Rattle.rules.specs.Book.{Book, Column}
+use mathlib.Core.Path.{_≡_, refl}
+use mathlib.Core.Bool.{Bool, true, false}
+use mathlib.Core.List.{List, [], _∷_}
+use borrow.Author.Tests.{eq-eqb}
+use Rattle.session.specs.Table.{Session, at, pick}
+use Rattle.session.specs.TableLaws.{same-refl}
+use Rattle.session.specs.declared.Field.{Field}
+use Rattle.session.specs.declared.Field.the-variants.{Objects, Links, Dropped, Kind, TemplateCount, TaskState, TaskCreator}
+use Rattle.session.specs.declared.Field.the-variants.{TaskSlots, TaskFinish, TaskOutput, EventState, EventType, EventPayload}
+use Rattle.session.specs.declared.Field.the-variants.{EventTally, BlockState, SlotMode, SlotMark, SlotPayload, LinkSource}
+use Rattle.session.specs.declared.Field.the-variants.{LinkTarget, LinkSlot, LinkState}
+use Rattle.session.specs.Names.{template, task, block, running, ended, taskDestroyed, eventOpen, doomed, delivered}
+use Rattle.rules.specs.Formula.{holds}
+use Rattle.rules.specs.EventTypes.{firesAtFirst}
+use Rattle.rules.specs.Book.{Book, Column, column}
+use Rattle.laws.specs.Tables.{meetsOf, onlyOf, alike}
+use Rattle.laws.specs.Outside.{fields, Outside, outside-same, outside-within}
+use Rattle.laws.specs.Entries.{columns, OutsideBook}
+use Rattle.laws.specs.Frame.{Shown, Shown.due}
 pub use Rattle.laws.specs.Lasting.{HadFired}
 
 -- two columns are one
@@ -61,52 +76,135 @@ OpenHas state has = (e : ℕ) → state e ≡ eventOpen → has e ≡ 0
 -- an event of type 1 to 3 was satisfied if it has fired, and not if it is open. (Of one destroyed unfired nothing is said: the
 -- book counts deliveries to it that the session drops.)
 abbrev pub SatisfiedAgree : (ℕ → ℕ) → (ℕ → ℕ) → (ℕ → ℕ) → Type 0
-SatisfiedAgree type state column = (e : ℕ) → type e ≤ sticky → (state e ≡ eventOpen → column e ≡ 0) × (HadFired (state e) → column e ≡ 1)
+SatisfiedAgree type state column =
+    (e : ℕ) → holds (firesAtFirst (type e)) → (state e ≡ eventOpen → column e ≡ 0) × (HadFired (state e) → column e ≡ 1)
 
 -- a link is struck out exactly if it is delivered or cut
 abbrev pub StruckAgree : ℕ → (ℕ → ℕ) → (ℕ → ℕ) → Type 0
 StruckAgree n state column = (l : ℕ) → 1 ≤ l → l ≤ n → Marks (delivered ≤ state l) (column l)
 
--- the same objects and links, with what they were made with
-abbrev pub Shape : Session → Book → Type 0
-Shape s b =
-    record {
-      objects : b Column.Objects 0 ≡ s Objects 0;
-      links : b Column.Links 0 ≡ s Links 0;
-      kinds : Same (b Column.Kind) (s Kind);
-      types : Same (b Column.EventType) (s EventType);
-      makers : Same (b Column.Maker) (s TaskCreator);
-      task-counts : CountOf task (s Kind) (b Column.Count) (s TaskSlots);
-      template-counts : CountOf template (s Kind) (b Column.Count) (s TemplateCount);
-      finishes : Same (b Column.Finish) (s TaskFinish);
-      outputs : Same (b Column.Output) (s TaskOutput);
-      sources : Same (b Column.LinkSource) (s LinkSource);
-      targets : Same (b Column.LinkTarget) (s LinkTarget);
-      link-slots : Same (b Column.LinkSlot) (s LinkSlot);
-    }
+-- The clauses: the same objects and links, with what they were made with; of tasks, blocks, events and links what happened to
+-- them; and nothing entered of what is not made.
+pub data Clause : Type 0 where
+  same-objects same-links same-kinds same-types same-makers same-finishes same-outputs : Clause
+  same-sources same-targets same-slots task-counts template-counts : Clause
+  slots-agree ended-agree starts-agree tasks-destroyed blocks-destroyed fired-has open-has satisfied-agree struck-agree : Clause
+  blank-kinds blank-times blank-satisfied blank-has blank-starts blank-ended blank-destroyed blank-struck : Clause
 
--- nothing is entered of what n objects and m links do not take in
-abbrev pub Unmade : ℕ → ℕ → Book → Type 0
-Unmade n m b =
-    record {
-      times : Blank (at n 15) (b Column.Times);
-      satisfied : Blank n (b Column.Satisfied);
-      has : Blank n (b Column.Has);
-      starts : Blank n (b Column.Starts);
-      ended : Blank n (b Column.Ended);
-      destroyed : Blank n (b Column.Destroyed);
-      struck : Blank m (b Column.Struck);
-    }
+-- What a clause says of a session and a book, with the fields and the columns that it reads: of a session and a book with no
+-- others it says the same. And the kind of the objects that it is about, 0 if they are of all kinds or none.
+pub record Row : Type 1 where
+  pub says : Session → Book → Type 0
+  pub reads : List Field
+  pub reads-book : List Column
+  pub enough : (s : Session) (b : Book) → says (onlyOf fields reads s) (onlyOf columns reads-book b) ≡ says s b
+  pub kind : ℕ
 
-pub record Related (s : Session) (b : Book) : Type 0 where
-  pub shape : Shape s b
-  pub slots : SlotsAgree (s Objects 0) (s Kind) (s TaskState) (s TaskSlots) (s SlotMark) (s SlotPayload) (b Column.Times) (b Column.Brought)
-  pub ended : EndedAgree (s TaskState) (b Column.Ended)
-  pub starts : StartsAgree (s TaskState) (b Column.Starts)
-  pub tasks : TasksDestroyed (s Kind) (s TaskState) (b Column.Destroyed)
-  pub blocks : BlocksDestroyed (s Kind) (s BlockState) (b Column.Destroyed)
-  pub payloads : FiredHas (s EventState) (s EventPayload) (b Column.Has)
-  pub nothing-yet : OpenHas (s EventState) (b Column.Has)
-  pub satisfied : SatisfiedAgree (s EventType) (s EventState) (b Column.Satisfied)
-  pub struck : StruckAgree (s Links 0) (s LinkState) (b Column.Struck)
-  pub unmade : Unmade (s Objects 0) (s Links 0) b
+abbrev over-kind : (k : ℕ) (fs : List Field) (cs : List Column) (f : Session → Book → Type 0)
+    → ((s : Session) (b : Book) → f (onlyOf fields fs s) (onlyOf columns cs b) ≡ f s b) → Row
+over-kind k fs cs f e = record { says = f; reads = fs; reads-book = cs; enough = e; kind = k }
+
+abbrev over : (fs : List Field) (cs : List Column) (f : Session → Book → Type 0)
+    → ((s : Session) (b : Book) → f (onlyOf fields fs s) (onlyOf columns cs b) ≡ f s b) → Row
+over fs cs f e = over-kind 0 fs cs f e
+
+-- a column is a field of the session
+abbrev copies : Column → Field → Row
+copies c f =
+    over (f ∷ []) (c ∷ []) (λ s b. Same (b c) (s f)) (λ s b. rw (same-refl f, eq-eqb (column c) (column c) refl) refl)
+
+-- nothing is entered of an object that is not made
+abbrev blanks : Column → Row
+blanks c = over (Objects ∷ []) (c ∷ []) (λ s b. Blank (s Objects 0) (b c)) (λ s b. rw (eq-eqb (column c) (column c) refl) refl)
+
+-- a row for each name: where a field or a column is missing the check says which
+abbrev pub row : Clause → Row
+row same-objects =
+    over (Objects ∷ []) (Column.Objects ∷ []) (λ s b. b Column.Objects 0 ≡ s Objects 0) (λ s b. refl)
+row same-links = over (Links ∷ []) (Column.Links ∷ []) (λ s b. b Column.Links 0 ≡ s Links 0) (λ s b. refl)
+row same-kinds = copies Column.Kind Kind
+row same-types = copies Column.EventType EventType
+row same-makers = copies Column.Maker TaskCreator
+row same-finishes = copies Column.Finish TaskFinish
+row same-outputs = copies Column.Output TaskOutput
+row same-sources = copies Column.LinkSource LinkSource
+row same-targets = copies Column.LinkTarget LinkTarget
+row same-slots = copies Column.LinkSlot LinkSlot
+row task-counts =
+    over-kind task (Kind ∷ TaskSlots ∷ []) (Column.Count ∷ [])
+    (λ s b. CountOf task (s Kind) (b Column.Count) (s TaskSlots)) (λ s b. refl)
+row template-counts =
+    over-kind template (Kind ∷ TemplateCount ∷ []) (Column.Count ∷ [])
+    (λ s b. CountOf template (s Kind) (b Column.Count) (s TemplateCount)) (λ s b. refl)
+row slots-agree =
+    over-kind task (Objects ∷ Kind ∷ TaskState ∷ TaskSlots ∷ SlotMark ∷ SlotPayload ∷ []) (Column.Times ∷ Column.Brought ∷ [])
+    (λ s b. SlotsAgree (s Objects 0) (s Kind) (s TaskState) (s TaskSlots) (s SlotMark) (s SlotPayload)
+    (b Column.Times) (b Column.Brought)) (λ s b. refl)
+row ended-agree = over (TaskState ∷ []) (Column.Ended ∷ []) (λ s b. EndedAgree (s TaskState) (b Column.Ended)) (λ s b. refl)
+row starts-agree =
+    over (TaskState ∷ []) (Column.Starts ∷ []) (λ s b. StartsAgree (s TaskState) (b Column.Starts)) (λ s b. refl)
+row tasks-destroyed =
+    over-kind task (Kind ∷ TaskState ∷ []) (Column.Destroyed ∷ [])
+    (λ s b. TasksDestroyed (s Kind) (s TaskState) (b Column.Destroyed)) (λ s b. refl)
+row blocks-destroyed =
+    over-kind block (Kind ∷ BlockState ∷ []) (Column.Destroyed ∷ [])
+    (λ s b. BlocksDestroyed (s Kind) (s BlockState) (b Column.Destroyed)) (λ s b. refl)
+row fired-has =
+    over (EventState ∷ EventPayload ∷ []) (Column.Has ∷ [])
+    (λ s b. FiredHas (s EventState) (s EventPayload) (b Column.Has)) (λ s b. refl)
+row open-has = over (EventState ∷ []) (Column.Has ∷ []) (λ s b. OpenHas (s EventState) (b Column.Has)) (λ s b. refl)
+row satisfied-agree =
+    over (EventType ∷ EventState ∷ []) (Column.Satisfied ∷ [])
+    (λ s b. SatisfiedAgree (s EventType) (s EventState) (b Column.Satisfied)) (λ s b. refl)
+row struck-agree =
+    over (Links ∷ LinkState ∷ []) (Column.Struck ∷ [])
+    (λ s b. StruckAgree (s Links 0) (s LinkState) (b Column.Struck)) (λ s b. refl)
+row blank-kinds = blanks Column.Kind
+row blank-times =
+    over (Objects ∷ []) (Column.Times ∷ []) (λ s b. Blank (at (s Objects 0) 15) (b Column.Times)) (λ s b. refl)
+row blank-satisfied = blanks Column.Satisfied
+row blank-has = blanks Column.Has
+row blank-starts = blanks Column.Starts
+row blank-ended = blanks Column.Ended
+row blank-destroyed = blanks Column.Destroyed
+row blank-struck = over (Links ∷ []) (Column.Struck ∷ []) (λ s b. Blank (s Links 0) (b Column.Struck)) (λ s b. refl)
+
+abbrev pub says : Clause → Session → Book → Type 0
+says c = row c .says
+
+-- the relation is all its clauses: of `r : Related s b`, `r starts-agree` is what they say of starts
+abbrev pub Related : Session → Book → Type 0
+Related s b = (c : Clause) → says c s b
+
+-- a clause reads one of the fields ws or of the columns cs
+abbrev pub isDue : List Field → List Column → Clause → Bool
+isDue ws cs c = pick (meetsOf fields ws (row c .reads)) true (meetsOf columns cs (row c .reads-book))
+
+-- so a change that writes these has to show it
+abbrev pub Due : List Field → List Column → Clause → Type 0
+Due ws cs c = Shown (isDue ws cs c)
+
+-- a clause that is not due lasts
+pub clause-lasts : {s q : Session} {b d : Book} {ws : List Field} {cs : List Column} → Outside s q ws → OutsideBook b d cs
+    → (c : Clause) → says c s b → (Due ws cs c → says c q d) → says c q d
+clause-lasts {s = s} {q = q} {b = b} {d = d} {ws = ws} {cs = cs} o p c h shows =
+    go (meetsOf fields ws (row c .reads)) refl (meetsOf columns cs (row c .reads-book)) refl
+  where
+    go : (x : Bool) → meetsOf fields ws (row c .reads) ≡ x → (y : Bool) → meetsOf columns cs (row c .reads-book) ≡ y → says c q d
+    go true e y f = shows (rw e due)
+    go false e true f = shows (rw (e, f) due)
+    go false e false f =
+        rw (← row c .enough q d, alike o (row c .reads) e, alike p (row c .reads-book) f, row c .enough s b) h
+
+pub related-by : {s q : Session} {b d : Book} {ws : List Field} {cs : List Column} → Outside s q ws → OutsideBook b d cs
+    → Related s b → ((c : Clause) → Due ws cs c → says c q d) → Related q d
+related-by o p r shows c = clause-lasts o p c (r c) (shows c)
+
+-- Modes, tallies and what was dropped are no part of the book. (antt has no function without clauses; so one that is not due is
+-- shown here.)
+pub related-unread : {s q : Session} {b : Book} → Outside s q (SlotMode ∷ EventTally ∷ Dropped ∷ []) → Related s b → Related q b
+related-unread {q = q} {b = b} o r =
+    related-by {ws = LinkSlot ∷ SlotMode ∷ EventTally ∷ Dropped ∷ []} (outside-within o refl) (outside-same b) r shows
+  where
+    shows : (c : Clause) → Due (LinkSlot ∷ SlotMode ∷ EventTally ∷ Dropped ∷ []) [] c → says c q b
+    shows same-slots due = λ i. rw (o .as-was LinkSlot refl) (r same-slots i)

@@ -1,14 +1,16 @@
 -- The places of slots: each slot has its own, which tells its owner and its number.
-use Prim.Native.Nat.{ℕ, _+_, _*_, _/_, _%_, _≤_, _<_}
+use Prim.Native.Nat.{ℕ, _*_, _/_, _%_, _≤_, _<_}
 use mathlib.Core.Path.{_≡_}
-use mathlib.Core.Logic.{_⊎_, inl, inr}
+use mathlib.Core.Logic.{inl, inr}
 use native.Mathlib.Omega.{arith}
 use Rattle.session.specs.Table.{Session}
-use Rattle.session.specs.declared.Field.the-variants.{Objects, Kind, TaskSlots, EventType}
-use Rattle.session.specs.Names.{task, event, latch}
+use Rattle.session.specs.declared.Field.the-variants.{Kind, TaskSlots}
+use Rattle.session.specs.Names.{task, event}
 use Rattle.rules.specs.Formula.{holds}
-use Rattle.rules.specs.Reading.{made, at, hasSlot}
-use Rattle.rules.specs.Sound.{taskPart, objects}
+use Rattle.rules.specs.FormulaLaws.{Case, decide, Case.it-does, Case.it-does-not}
+use Rattle.rules.specs.Reading.{at, isKind, hasSlot}
+use Rattle.rules.specs.Sound.{taskPart}
+use Rattle.laws.specs.Conjuncts.{task-by-name, no-task, Task.few-slots}
 
 pub at-div : (t j : ℕ) → j < 16 → at t j / 16 ≡ t
 at-div t j h = omega arith
@@ -37,11 +39,11 @@ same-slot h k t j l m e = let q : t ≡ h = same-task h k t j l m e in omega ari
 
 -- a task has at most 16 slots
 pub part-slots : (s : Session) (h : ℕ) → holds (taskPart s h) → s TaskSlots h ≤ 16
-part-slots s h (inl x) = x .1 .1 .1 .0
-part-slots s h (inr x) = let e : s TaskSlots h ≡ 0 = x .1 .1 .1 .0 in omega arith
-
-pub few-slots : (s : Session) → holds (objects s) → (h : ℕ) → h < s Objects 0 + 1 → s TaskSlots h ≤ 16
-few-slots s o h l = part-slots s h (o .1 h l .1 .1 .0)
+part-slots s h x = go (decide (isKind s task h))
+  where
+    go : Case (isKind s task h) → s TaskSlots h ≤ 16
+    go (it-does k) = task-by-name h s k x few-slots
+    go (it-does-not n) = let z = no-task s h n x .no-slots in omega arith
 
 -- a slot that a task has
 pub task-slot : (s : Session) (t j : ℕ) → s Kind t ≡ task → holds (hasSlot s t j) → j < s TaskSlots t
@@ -49,10 +51,7 @@ task-slot s t j k (inl x) = x .1
 task-slot s t j k (inr x) = let e : s Kind t ≡ event = x .0 in absurd (omega arith)
 
 -- a slot that a task or an event has is below 16
-pub low-slot : (s : Session) (h j : ℕ) → holds (objects s) → holds (made s h) → holds (hasSlot s h j) → j < 16
-low-slot s h j o m (inl x) = let b = few-slots s o h (omega arith) in omega arith
-low-slot s h j o m (inr x) = first-two (x .1)
-  where
-    first-two : j ≡ 0 ⊎ (s EventType h ≡ latch) × (j ≡ 1) → j < 16
-    first-two (inl z) = omega arith
-    first-two (inr z) = omega arith
+pub low-slot : (s : Session) (h j : ℕ) → holds (taskPart s h) → holds (hasSlot s h j) → j < 16
+low-slot s h j p (inl (k, l)) = let f = part-slots s h p in omega arith
+low-slot s h j p (inr (k, inl z)) = omega arith
+low-slot s h j p (inr (k, inr z)) = omega arith

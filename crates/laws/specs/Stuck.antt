@@ -1,7 +1,7 @@
 -- Where no move would be accepted, no task is granted or running; so nobody holds anything, and every live task has a slot that
 -- is not satisfied or that has a destroyed block.
 use Prim.Native.Nat.{ℕ, _≤_, _<_}
-use mathlib.Core.Path.{_≡_, refl, ap, sym, subst, _∙_}
+use mathlib.Core.Path.{_≡_, ap, sym, subst, _∙_}
 use mathlib.Core.Logic.{_⊎_, inl, inr}
 use mathlib.Core.List.{[], _∷_}
 use native.Mathlib.Omega.{arith}
@@ -12,17 +12,18 @@ use Rattle.rules.specs.declared.Operation.{Operation}
 use Rattle.rules.specs.Formula.{holds, Formula._≼_}
 use Rattle.rules.specs.FormulaLaws.{Case, decide, Case.it-does, Case.it-does-not}
 use Rattle.rules.specs.Reading.{made, isLive}
-use Rattle.rules.specs.Checks.{grantChecks}
+use Rattle.rules.specs.Checks.{grantChecks, startChecks, endChecks}
 use Rattle.rules.specs.Sound.{kept}
-use Rattle.rules.specs.Step.{answer, Reply}
+use Rattle.rules.specs.Step.{answer, rules, Reply}
 use Rattle.rules.specs.Demand.{accepted, moves}
 use Rattle.rules.specs.Book.{Book, Column, live}
+use Rattle.laws.specs.ByName.{by-name}
 use Rattle.laws.specs.Met.{met}
-use Rattle.laws.specs.Cases.{takes-grant, takes-start, takes-end}
+use Rattle.laws.specs.Met.{none-fails}
 use Rattle.laws.specs.StepKeeps.{kept-step}
 use Rattle.laws.specs.Holding.{Idle, lacks, waits, startable, endable}
 use Rattle.laws.specs.Relation.{Related, SlotAgrees}
-use Rattle.laws.specs.Tidy.{Tidy}
+use Rattle.laws.specs.Relation.Clause.{same-kinds, task-counts, slots-agree, blocks-destroyed}
 use Rattle.laws.specs.Living.{task-made, live-there}
 
 -- no move would be accepted
@@ -45,40 +46,47 @@ module _ (s : Session) (k : holds (kept s)) (stuck : Stuck s) where
   answered o c e = stuck o c (ap (λ (r : Reply). r .refused) (kept-step s o k) ∙ e)
 
   idle : Idle s
-  unfolding move
+  unfolding move answer rules
   idle t m e = (
-    λ q. answered (move 11 t) (omega arith, omega arith) (takes-start s (move 11 t) refl (startable s t m e q)),
-    λ q. answered (move 12 t) (omega arith, omega arith) (takes-end s (move 12 t) refl (endable s t m e q)),
+    λ q. answered (move 11 t) (omega arith, omega arith) (none-fails (startChecks s t) (startable s t m e q)),
+    λ q. answered (move 12 t) (omega arith, omega arith) (none-fails (endChecks s t 0) (endable s t m e q)),
   )
 
   no-grant : (t : ℕ) → met (grantChecks s t) → ⊥
-  unfolding move
-  no-grant t m = answered (move 10 t) (omega arith, omega arith) (takes-grant s (move 10 t) refl m)
+  unfolding move answer rules
+  no-grant t m = answered (move 10 t) (omega arith, omega arith) (none-fails (grantChecks s t) m)
 
   module _ (b : Book) (x : Related s b) where
     -- what lacks in the session lacks in the book
     lacks-there : (t j : ℕ) → t ≤ s Objects 0 → holds (isLive s t) → j < s TaskSlots t → holds (lacks s t j) → Lacks b t j
-    lacks-there t j l u h z = go (x .slots t (omega arith) (u .0) (λ e. let w = u .1 in omega arith) j h) z
+    lacks-there t j l u h z = go (x slots-agree t (omega arith) (u .0) (λ e. let w = u .1 in omega arith) j h) z
       where
-        go : SlotAgrees (s SlotMark (at t j)) (s SlotPayload (at t j)) (b Column.Times (at t j)) (b Column.Brought (at t j)) → holds (lacks s t j) → Lacks b t j
+        go : SlotAgrees (s SlotMark (at t j)) (s SlotPayload (at t j)) (b Column.Times (at t j)) (b Column.Brought (at t j))
+            → holds (lacks s t j) → Lacks b t j
         go a (inl e) = inl (a .0 e)
         go a (inr y) = either (decide (1 ≼ s SlotMark (at t j)))
           where
             either : Case (1 ≼ s SlotMark (at t j)) → Lacks b t j
             either (it-does-not n) = inl (a .0 (omega arith))
-            either (it-does m) = inr (subst (λ (p : ℕ). (b Column.Kind p ≡ block) × (b Column.Destroyed p ≡ 1)) (sym (a .1 m .1)) gone)
+            either (it-does m) =
+                inr (subst (λ (p : ℕ). (b Column.Kind p ≡ block) × (b Column.Destroyed p ≡ 1)) (sym (a .1 m .1)) gone)
               where
                 gone : (b Column.Kind (s SlotPayload (at t j)) ≡ block) × (b Column.Destroyed (s SlotPayload (at t j)) ≡ 1)
-                gone = let d = y .1 in (x .shape .kinds (s SlotPayload (at t j)) ∙ y .0, x .blocks (s SlotPayload (at t j)) (y .0) .0 (omega arith))
+                gone =
+                    let d = y .1 in (
+                      x same-kinds (s SlotPayload (at t j)) ∙ y .0,
+                      x blocks-destroyed (s SlotPayload (at t j)) (y .0) .0
+                          (omega arith),
+                    )
 
-    pub live-lacks : Tidy b → (t : ℕ) → holds (live b t) → (j : ℕ) × (j < b Column.Count t) × Lacks b t j
-    live-lacks y t u = (w .0, rw (x .shape .task-counts t (m .1)) (w .1), lacks-there t (w .0) (m .0 .1) live-task (w .1) (w .2))
+    pub live-lacks : (t : ℕ) → holds (live b t) → (j : ℕ) × (j < b Column.Count t) × Lacks b t j
+    live-lacks t u = (w .0, rw (x task-counts t (m .1)) (w .1), lacks-there t (w .0) (m .0 .1) live-task (w .1) (w .2))
       where
         m : holds (made s t) × (s Kind t ≡ task)
-        m = task-made s b k x y t (u .0)
+        m = task-made s b k x t (u .0)
 
         live-task : holds (isLive s t)
         live-task = live-there s b k x t (m .0 .1) u
 
         w : (j : ℕ) × (j < s TaskSlots t) × holds (lacks s t j)
-        w = waits s k idle t (m .0) (m .1) (live-task .1) (no-grant t)
+        w = waits s (by-name s k) idle t (m .0) (m .1) (live-task .1) (no-grant t)

@@ -35,7 +35,8 @@ told before after op r p =
     let n = numbers (read before) op p in
     record { says = n .0; makes = n .1; leaves = p .leaves; stays = λ z. p .stays (λ e. z (n .0 ∙ e)) }
 
-pub called : (before after : List ℕ) (op : Operation) (r : Answer) → Answered before after op r → Called before after op (refusedOf r) (madeOf r)
+pub called : (before after : List ℕ) (op : Operation) (r : Answer) → Answered before after op r
+    → Called before after op (refusedOf r) (madeOf r)
 unfolding refusedOf madeOf
 called before after op r p = go (leb words (length before)) p
   where

@@ -28,7 +28,8 @@ isAccepted n = eqb (n .refused) 0
 abbrev pub CalledWith : List ℕ → List ℕ → Operation → Numbers → Type 0
 CalledWith before after op n = Called before after op (n .refused) (n .made)
 
-pub called-demand : {lent first after : List ℕ} {os : List Operation} {ns : List Numbers} → words ≤ length lent → Leaves lent first freshSession
+pub called-demand : {lent first after : List ℕ} {os : List Operation} {ns : List Numbers} → words ≤ length lent
+    → Leaves lent first freshSession
     → Chain CalledWith first os ns after → FromFresh numbersOf isAccepted lent os ns after
 unfolding test
 called-demand = chain-demand CalledWith numbersOf isAccepted told (λ reply. refl)

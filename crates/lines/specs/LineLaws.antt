@@ -53,11 +53,13 @@ splice-marked out at v mark h =
     let n = length-append (decimal v) (mark ∷ []) in
     let room : at + length (decimal v) < length out = omega arith in
     let long = splice-length out at (decimal v) (omega arith) in
-    sym (splice-one (splice out at (decimal v)) (at + length (decimal v)) mark (omega arith)) ∙ splice-then out at (decimal v) (mark ∷ []) (omega arith)
+    sym (splice-one (splice out at (decimal v)) (at + length (decimal v)) mark (omega arith))
+    ∙ splice-then out at (decimal v) (mark ∷ []) (omega arith)
 
 -- the three parts of a line, one behind the other
 pub splice-line : (out : List ℕ) (a b c : ℕ) → length (line a b c) ≤ length out
-    → splice (splice (splice out 0 (marked a space)) (0 + length (marked a space)) (marked b space)) (0 + length (marked a space) + length (marked b space)) (marked c newline)
+    → splice (splice (splice out 0 (marked a space)) (0 + length (marked a space)) (marked b space))
+    (0 + length (marked a space) + length (marked b space)) (marked c newline)
     ≡ splice out 0 (line a b c)
 splice-line out a b c h =
     let n = line-parts a b c in
@@ -82,7 +84,9 @@ pub splice-tail : (out : List ℕ) (used : ℕ) (bs : List ℕ) → used ≤ len
     → putMid used (length out - used) out (splice (midOf used (length out - used) out) 0 bs) ≡ splice out used bs
 unfolding splice
 splice-tail out used bs h =
-    let tail : midOf used (length out - used) out ≡ drop used out = take-all (length out - used) (drop used out) (omega (arith, length-drop used out)) in
+    let tail : midOf used (length out - used) out ≡ drop used out =
+    take-all (length out - used) (drop used out) (omega (arith, length-drop used out)) in
     let none : postOf used (length out - used) out ≡ [] = post-is used (length out) out h ∙ drop-length out in
     let rest = drop (used + length bs) out in
-    rw (tail, none, drop-drop, zero-add) (ap (λ (l : List ℕ). take used out ++ l) (append-nil (bs ++ rest)) ∙ sym (append-assoc (take used out) bs rest))
+    rw (tail, none, drop-drop, zero-add)
+    (ap (λ (l : List ℕ). take used out ++ l) (append-nil (bs ++ rest)) ∙ sym (append-assoc (take used out) bs rest))

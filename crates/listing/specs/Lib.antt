@@ -1,4 +1,3 @@
-pub mod Names
 pub mod Listing
 pub mod ListingLaws
 pub mod TextLength

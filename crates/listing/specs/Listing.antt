@@ -6,11 +6,10 @@ use Rattle.decimal.specs.Decimal.{decimal}
 use Rattle.rules.specs.declared.Operation.{Operation}
 use Rattle.rules.specs.Formula.{choose, Formula._≐_}
 use Rattle.rules.specs.Step.{arg}
-use Rattle.record.specs.Reading.{fieldCount}
+use Rattle.rules.specs.Arity.{fieldCount, nameOf}
 use Rattle.record.specs.Sheet.{Contents, recordsFrom, headAt}
 use Rattle.record.specs.declared.Place.{Place}
 use Rattle.record.specs.declared.Place.the-variants.{Behind, Refused}
-use Rattle.listing.specs.Names.{nameOf}
 
 abbrev pub newline : List ℕ
 newline = 10 ∷ []

@@ -1,6 +1,6 @@
 -- How the text of a sheet is put together, and how long it is.
 use Prim.Native.Nat.{ℕ, zero, suc, _+_, _-_, _≤_, _<_}
-use mathlib.Core.List.{List, [], _∷_, _++_, append-assoc}
+use mathlib.Core.List.{List, [], _++_, append-assoc}
 use mathlib.Core.Path.{_≡_, refl, ap, sym, _∙_}
 use native.Mathlib.Omega.{arith}
 use native.Mathlib.Numerals.{add-one}
@@ -11,12 +11,13 @@ use Rattle.rules.specs.Formula.{test, Formula._≐_, Formula._≼_}
 use Rattle.rules.specs.FormulaLaws.{Case, decide, choose-yes, choose-no, Case.it-does, Case.it-does-not}
 use Rattle.rules.specs.Step.{arg}
 use Rattle.record.specs.declared.Record.{Record}
-use Rattle.record.specs.Reading.{fieldCount, recordAt}
+use Rattle.rules.specs.Arity.{fieldCount, nameOf}
+use Rattle.record.specs.Reading.{recordAt}
 use Rattle.record.specs.Laws.{Forward, record-forward}
-use Rattle.record.specs.Sheet.{stopped, followed, recordsFrom, headAt}
+use Rattle.record.specs.Sheet.{followed, recordsFrom, headAt}
+use Rattle.record.specs.SheetLaws.{followed-on, followed-stop}
 use Rattle.record.specs.declared.Place.the-variants.{Behind, Refused}
 use Rattle.text.specs.Put.{Put, put-then}
-use Rattle.listing.specs.Names.{nameOf}
 use Rattle.listing.specs.Listing.{one, fieldText, fieldsText, line, lines, refusalLine, recordsText, textFrom, textOf}
 
 -- five parts, one behind the other
@@ -37,7 +38,8 @@ put-five a b c d e {out} {at = at} h p q r s t =
 
 -- The parts of a line.
 pub line-length : (op : Operation)
-    → length (line op) ≡ length (decimal (op .code)) + length (fieldsText (fieldCount (op .code)) (arg op)) + 4 + length (nameOf (op .code)) + 1
+    → length (line op)
+    ≡ length (decimal (op .code)) + length (fieldsText (fieldCount (op .code)) (arg op)) + 4 + length (nameOf (op .code)) + 1
 unfolding line
 line-length op = simp length-append
 
@@ -111,7 +113,7 @@ module _ (sheet : List ℕ) where
     unfolding recordsText lines
     left-refused p =
         here
-        ∙ ap (recordsText k) (choose-no (r .refused ≐ 0) _ (stopped (r .refused)) (λ z. omega arith))
+        ∙ ap (recordsText k) (followed-stop r (recordsFrom sheet rest (r .next)) (λ z. omega arith))
         ∙ choose-no (r .refused ≐ 0) [] (refusalLine (k + 0) (r .refused)) (λ z. omega arith)
         ∙ ap (λ (n : ℕ). refusalLine n (r .refused)) (omega arith)
 
@@ -122,11 +124,12 @@ module _ (sheet : List ℕ) where
         let n : rest ≡ length sheet + 1 - (k + 1) = omega arith in
         let number : k + suc (length (c .operations)) ≡ k + 1 + length (c .operations) = omega arith in
         here
-        ∙ ap (recordsText k) (choose-yes (r .refused ≐ 0) (record { refused = c .refused; operations = r .operation ∷ c .operations }) (stopped (r .refused)) z)
+        ∙ ap (recordsText k) (followed-on r c z)
         ∙ rw number (append-assoc (line (r .operation)) (lines (c .operations)) _)
         ∙ ap (λ (m : ℕ). line (r .operation) ++ recordsText (k + 1) (recordsFrom sheet m (r .next))) n
 
-    pub left-length : r .refused ≡ 0 → length (left sheet k at) ≡ length (line (r .operation)) + length (left sheet (k + 1) (r .next))
+    pub left-length : r .refused ≡ 0
+        → length (left sheet k at) ≡ length (line (r .operation)) + length (left sheet (k + 1) (r .next))
     left-length z = ap length (left-read z) ∙ length-append (line (r .operation)) _
 
 -- A sheet, by its first number.
@@ -135,6 +138,7 @@ module _ (sheet : List ℕ) where
   unfolding textOf textFrom
   text-refused n e = ap (textFrom sheet) e
 
-  pub text-behind : (first : ℕ) → headAt sheet ≡ Behind first → textOf sheet ≡ one ++ recordsText 1 (recordsFrom sheet (length sheet) first)
+  pub text-behind : (first : ℕ) → headAt sheet ≡ Behind first
+      → textOf sheet ≡ one ++ recordsText 1 (recordsFrom sheet (length sheet) first)
   unfolding textOf textFrom
   text-behind first e = ap (textFrom sheet) e

@@ -12,21 +12,22 @@ use Rattle.number.specs.Laws.{length-some, value-next}
 use Rattle.decimal.specs.Decimal.{decimal}
 use Rattle.lines.specs.LineLaws.{digits-bound}
 use Rattle.rules.specs.declared.Operation.{Operation}
-use Rattle.rules.specs.Formula.{holds, test, Formula.each, Formula._≐_, Formula._≼_, Formula._then_}
+use Rattle.rules.specs.Formula.{holds, test, Formula.each, Formula._≐_, Formula._≼_}
 use Rattle.rules.specs.FormulaLaws.{Case, decide, passed, choose-yes, choose-no, Case.it-does, Case.it-does-not}
-use Rattle.rules.specs.Step.{arg}
+use Rattle.rules.specs.Step.{arg, lastCode}
 use Rattle.record.specs.declared.Place.{Place}
 use Rattle.record.specs.declared.Place.the-variants.{Behind, Refused}
 use Rattle.record.specs.declared.Record.{Record}
-use Rattle.record.specs.Reading.{fieldCount, placed, recordAt}
+use Rattle.rules.specs.Arity.{fieldCount, nameOf, fields-some}
+use Rattle.record.specs.Reading.{placed, recordAt}
 use Rattle.record.specs.Writing.{fieldBytes, recordBytes, isRecordable}
 use Rattle.record.specs.Sheet.{headAt, headChecks, headRefusal, firstRecord}
 use Rattle.record.specs.Refusals.{refusal-most}
 use Rattle.record.specs.Laws.{record-refusals, record-again}
 use Rattle.record.specs.SheetLaws.{head-none}
-use Rattle.listing.specs.Names.{nameOf}
 use Rattle.listing.specs.Listing.{fieldText, fieldsText, line, refusalLine, textFrom, textOf, roomFor}
-use Rattle.listing.specs.ListingLaws.{field-length, line-length, refusal-length, forward, left, left-start, left-end, left-refused, left-length}
+use Rattle.listing.specs.ListingLaws.{field-length, line-length, refusal-length, forward, left, left-start, left-end}
+use Rattle.listing.specs.ListingLaws.{left-refused, left-length}
 
 -- A number has at most three digits for each of its bytes.
 pow-three : (n : ℕ) → 10 ^ (3 * suc n) ≡ 1000 * 10 ^ (3 * n)
@@ -57,13 +58,9 @@ fields-short (suc n) f =
     let some = length-some (f n) in
     (omega (arith, before .0, field-length (f n), digits-three (f n)), omega (arith, before .1))
 
-name-short : (code : ℕ) → code ≤ 12 → length (nameOf code) ≤ 10
+name-short : (code : ℕ) → code ≤ lastCode → length (nameOf code) ≤ 10
 unfolding test nameOf
-name-short code h = passed (each 13 (λ c. length (nameOf c) ≼ 10)) refl code (omega arith)
-
-some-field : (code : ℕ) → 1 ≤ code → code ≤ 12 → 1 ≤ fieldCount code
-unfolding test
-some-field code l h = passed (each 13 (λ c. 1 ≼ c then 1 ≼ fieldCount c)) refl code (omega arith) l
+name-short code h = passed (each (suc lastCode) (λ c. length (nameOf c) ≼ 10)) refl code (omega arith)
 
 pub line-short : (op : Operation) → holds (isRecordable op) → length (line op) ≤ 16 * length (recordBytes op)
 unfolding recordBytes
@@ -73,18 +70,20 @@ line-short op h =
     let code = digits-bound 1 (op .code) (omega (arith, known .1)) in
     let fields = fields-short n (arg op) in
     let name = name-short (op .code) (known .1) in
-    let some = some-field (op .code) (known .0) (known .1) in
+    let some = fields-some (op .code) (h .0) in
     let bytes = length-append (encode (op .code)) (fieldBytes n (arg op)) in
     omega (arith, line-length op, length-some (op .code), fields .0, fields .1)
 
 refusal-short : (k refused : ℕ) → k < 2 ^ 64 → refused ≤ 6 → length (refusalLine k refused) ≤ 64
-refusal-short k refused h l = omega (arith, refusal-length k refused, digits-bound 19 k (omega arith), digits-bound 0 refused (omega arith))
+refusal-short k refused h l =
+    omega (arith, refusal-length k refused, digits-bound 19 k (omega arith), digits-bound 0 refused (omega arith))
 
 module _ (sheet : List ℕ) (are : AreBytes sheet) (size : length sheet < 2 ^ 64) where
   -- the records that are left, of which there are no more than m
   left-short : (m k at : ℕ) → length sheet ≤ at + m → k ≤ at → length (left sheet k at) ≤ 16 * (length sheet - at) + 64
   left-short zero k at h l = omega (arith, ap length (left-end sheet k at (omega arith)))
-  left-short (suc m) k at h l = go (decide (length sheet ≼ at)) (decide (recordAt sheet at .refused ≐ 0)) (left-short m (k + 1) (recordAt sheet at .next))
+  left-short (suc m) k at h l =
+      go (decide (length sheet ≼ at)) (decide (recordAt sheet at .refused ≐ 0)) (left-short m (k + 1) (recordAt sheet at .next))
     where
       r : Record
       r = recordAt sheet at
@@ -135,5 +134,11 @@ text-short sheet are size = go (headAt sheet) (head-as sheet)
   where
     go : (p : Place) → Inside (length sheet) p → length (textFrom sheet p) ≤ roomFor sheet
     go (Behind first) i =
-        omega (arith, i .0, i .1, ap length (left-start sheet first), left-short sheet are size (length sheet) 1 first (omega arith) (i .0))
+        omega (
+          arith,
+          i .0,
+          i .1,
+          ap length (left-start sheet first),
+          left-short sheet are size (length sheet) 1 first (omega arith) (i .0),
+        )
     go (Refused n) i = omega (arith, refusal-short 0 n (omega arith) i)

@@ -1,6 +1,8 @@
 // A sheet as text: its first number on a line, then a line for each record, with the operation's name in a comment.
 use record::Place;
 use rules::Arity;
+use rules::NAME_ENDS;
+use rules::NAMES;
 use rules::Operation;
 use rules::refusals;
 use text::Printed;
@@ -8,13 +10,11 @@ use text::write_bytes;
 ghost use mathlib.Core.Path.{_≡_};
 ghost use Prim.Native.Nat.{_+_, _≤_};
 ghost use lib.ListN.{length, getD};
-ghost use Rattle.rules.specs.Arity.{isCode};
+ghost use Rattle.rules.specs.Arity.{isCode, fieldCount, nameOf};
 ghost use Rattle.rules.specs.Formula.{holds};
-ghost use Rattle.record.specs.Reading.{fieldCount};
 ghost use Rattle.record.specs.Sheet.{recordsFrom};
 ghost use Rattle.text.specs.Put.{Put};
 ghost use Rattle.text.specs.Printed.{printed, printedMemory};
-ghost use Rattle.listing.specs.Names.{nameOf};
 ghost use Rattle.listing.specs.Listing.{fieldText, fieldsText, line, refusalLine, recordsText, textOf, roomFor};
 
 // How many bytes of text a byte of the sheet takes at most, and how many more are asked for.
@@ -63,7 +63,10 @@ fn write_text(sheet: &[u8], out: &mut [u8]) -> usize
 fn write_records(sheet: &[u8], first: usize, out: &mut [u8], start: usize) -> usize
     requires { ⌜ 1 ≤ first ⌝ }
     requires { ⌜ start + length (recordsText 1 (recordsFrom (now sheet) (length (now sheet)) first)) ≤ length (now out) ⌝ }
-    ensures { λ r. ⌜ Put (now (out .entry)) start (recordsText 1 (recordsFrom (now (sheet .entry)) (length (now (sheet .entry))) first)) r (now (out .exit)) ⌝ }
+    ensures { λ r. ⌜
+        Put (now (out .entry)) start (recordsText 1 (recordsFrom (now (sheet .entry)) (length (now (sheet .entry))) first))
+        r (now (out .exit))
+        ⌝ }
 {
     let mut at = first;
     let mut used = start;
@@ -144,24 +147,14 @@ fn write_refusal(k: u64, refused: u64, out: &mut [u8], at: usize) -> usize
     write_bytes(b"\n", out, end)
 }
 
-// Writes an operation's name.
+// Writes the name of an operation of a known code.
 fn write_name(code: u64, out: &mut [u8], at: usize) -> usize
+    requires { ⌜ holds (isCode code) ⌝ }
     requires { ⌜ at + length (nameOf code) ≤ length (now out) ⌝ }
     ensures { λ r. ⌜ Put (now (out .entry)) at (nameOf code) r (now (out .exit)) ⌝ }
 {
-    match code {
-        1 => write_bytes(b"template", out, at),
-        2 => write_bytes(b"task", out, at),
-        3 => write_bytes(b"event", out, at),
-        4 => write_bytes(b"block", out, at),
-        5 => write_bytes(b"dependence", out, at),
-        6 => write_bytes(b"satisfy", out, at),
-        7 => write_bytes(b"release", out, at),
-        8 => write_bytes(b"destroy", out, at),
-        9 => write_bytes(b"deliver", out, at),
-        10 => write_bytes(b"grant", out, at),
-        11 => write_bytes(b"start", out, at),
-        12 => write_bytes(b"end", out, at),
-        _ => at,
-    }
+    let i = code as usize;
+    let start = NAME_ENDS[i - 1];
+    let end = NAME_ENDS[i];
+    write_bytes(&NAMES[start..end], out, at)
 }

@@ -10,7 +10,7 @@ use lib.Seq.{drop-cons, drop-length}
 use borrow.Author.Tests.{lt-ltb, le-ltb}
 use Rattle.number.specs.Number.{more, value, lastByte, shortest, judged, readAt}
 use Rattle.number.specs.Decode.{more-last, more-on, shortest-several}
-use Rattle.number.specs.Cases.{judged-above, read-ends, read-cut}
+use Rattle.number.specs.NumberCases.{judged-above, read-ends, read-cut}
 use Rattle.number.specs.declared.Reading.the-variants.{Bad, CutShort}
 
 -- The search for the last byte: a byte with the high bit set is passed, and any other is the last.

@@ -144,7 +144,8 @@ positive (b ∷ bs) bytes l f = go (groups b) (positive bs (λ i. bytes (suc i))
     go (several h) ih =
         let m : more bs < length bs = omega (arith, more-on b bs h) in
         let n : 0 < length (first bs) = omega (arith, length-first bs m) in
-        rw (first-on b bs h) (positive-front b (first bs) h (bytes 0) (ih m (rw (first-on b bs h, lastByte-cons b (first bs) n) at f)))
+        rw (first-on b bs h)
+        (positive-front b (first bs) h (bytes 0) (ih m (rw (first-on b bs h, lastByte-cons b (first bs) n) at f)))
 
 -- Reading by its test: a number in its shortest form is made of the bytes of its value.
 pub exact : (bs : List ℕ)

@@ -17,7 +17,8 @@ pub at-limit-32 : (readAt limit32 (255 ∷ 255 ∷ 255 ∷ 255 ∷ 15 ∷ []) 0 
 unfolding readAt readFirst judged shortest lastByte value more encode encodeIn
 at-limit-32 = (refl, refl, refl)
 
-pub at-limit-64 : (readAt 18446744073709551615 (255 ∷ 255 ∷ 255 ∷ 255 ∷ 255 ∷ 255 ∷ 255 ∷ 255 ∷ 255 ∷ 1 ∷ []) 0 ≡ Value 18446744073709551615 10)
+pub at-limit-64 : (readAt 18446744073709551615 (255 ∷ 255 ∷ 255 ∷ 255 ∷ 255 ∷ 255 ∷ 255 ∷ 255 ∷ 255 ∷ 1 ∷ []) 0
+    ≡ Value 18446744073709551615 10)
     × (encode 18446744073709551615 ≡ 255 ∷ 255 ∷ 255 ∷ 255 ∷ 255 ∷ 255 ∷ 255 ∷ 255 ∷ 255 ∷ 1 ∷ [])
     × (readAt 18446744073709551615 (128 ∷ 128 ∷ 128 ∷ 128 ∷ 128 ∷ 128 ∷ 128 ∷ 128 ∷ 128 ∷ 2 ∷ []) 0 ≡ Bad 10)
 unfolding readAt readFirst judged shortest lastByte value more encode encodeIn
@@ -46,12 +47,14 @@ pub fed-limit-32 : (feeds limit32 start (255 ∷ 255 ∷ 255 ∷ 255 ∷ 15 ∷ 
 unfolding feeds fed ended onward shortEnd groupFits start spoilt
 fed-limit-32 = (refl, refl)
 
-pub fed-limit-64 : (feeds 18446744073709551615 start (255 ∷ 255 ∷ 255 ∷ 255 ∷ 255 ∷ 255 ∷ 255 ∷ 255 ∷ 255 ∷ 1 ∷ []) 0 ≡ Value 18446744073709551615 10)
+pub fed-limit-64 : (feeds 18446744073709551615 start (255 ∷ 255 ∷ 255 ∷ 255 ∷ 255 ∷ 255 ∷ 255 ∷ 255 ∷ 255 ∷ 1 ∷ []) 0
+    ≡ Value 18446744073709551615 10)
     × (feeds 18446744073709551615 start (128 ∷ 128 ∷ 128 ∷ 128 ∷ 128 ∷ 128 ∷ 128 ∷ 128 ∷ 128 ∷ 2 ∷ []) 0 ≡ Bad 10)
 unfolding feeds fed ended onward shortEnd groupFits start spoilt
 fed-limit-64 = (refl, refl)
 
-pub fed-long : (feeds 18446744073709551615 start (128 ∷ 128 ∷ 128 ∷ 128 ∷ 128 ∷ 128 ∷ 128 ∷ 128 ∷ 128 ∷ 128 ∷ 128 ∷ 0 ∷ 7 ∷ []) 0 ≡ Bad 12)
+pub fed-long : (feeds 18446744073709551615 start (128 ∷ 128 ∷ 128 ∷ 128 ∷ 128 ∷ 128 ∷ 128 ∷ 128 ∷ 128 ∷ 128 ∷ 128 ∷ 0 ∷ 7 ∷ []) 0
+    ≡ Bad 12)
     × (feeds 18446744073709551615 start (128 ∷ 128 ∷ 128 ∷ 128 ∷ 128 ∷ 128 ∷ 128 ∷ 128 ∷ 128 ∷ 128 ∷ 128 ∷ 1 ∷ 7 ∷ []) 0 ≡ Bad 12)
 unfolding feeds fed ended onward shortEnd groupFits start spoilt
 fed-long = (refl, refl)

@@ -12,7 +12,7 @@ use borrow.Author.Tests.{lt-ltb, le-ltb, le-leb, lt-leb, ltb-true, ltb-false, le
 use Rattle.number.specs.Number.{more, first, value, lastByte, shortest, judged, readAt}
 use Rattle.number.specs.Encode.{Groups, one, several, groups}
 use Rattle.number.specs.Decode.{more-last, more-on, lastByte-cons, shortest-several}
-use Rattle.number.specs.Cases.{read-ends, read-cut}
+use Rattle.number.specs.NumberCases.{read-ends, read-cut}
 use Rattle.number.specs.Fed.{start, spoilt, withGroup, shortEnd, onward, feeds}
 use Rattle.number.specs.FedCases.{feeds-none, feeds-more, feeds-whole, feeds-bad}
 use Rattle.number.specs.FedCases.{fits-yes, fits-spoilt, fits-above}

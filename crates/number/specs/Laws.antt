@@ -11,7 +11,7 @@ use lib.Seq.{length-take-le, take-at, drop-drop, drop-append-seam, getD-drop}
 use Rattle.number.specs.Number.{AreBytes, limit32, encode, more, first, value, readAt, written, memory}
 use Rattle.number.specs.Encode.{encode-ind, encode-length}
 use Rattle.number.specs.Decode.{encodes, exact, more-all, more-set}
-use Rattle.number.specs.Cases.{judged-value, read-ends, read-cut, At, cut, bad, good, reading-as}
+use Rattle.number.specs.NumberCases.{judged-value, read-ends, read-cut, At, cut, bad, good, reading-as}
 use Rattle.number.specs.Splice.{splice-from, splice-is, written-fits, memory-fits}
 use Rattle.number.specs.declared.Reading.the-variants.{Value, Bad, CutShort}
 use Rattle.number.specs.declared.Written.the-variants.{Used}

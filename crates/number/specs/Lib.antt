@@ -1,7 +1,7 @@
 pub mod Number
 pub mod Encode
 pub mod Decode
-pub mod Cases
+pub mod NumberCases
 pub mod Splice
 pub mod Laws
 pub mod Fed

@@ -38,7 +38,8 @@ module _ (out : List ℕ) (at : ℕ) (bs : List ℕ) (h : at + length bs ≤ len
 
   pub splice-before : take at (splice out at bs) ≡ take at out
   unfolding splice
-  splice-before = rw append-assoc (take-at (take at out) (bs ++ drop (at + length bs) out) at (length-take-le at out (omega arith)))
+  splice-before =
+      rw append-assoc (take-at (take at out) (bs ++ drop (at + length bs) out) at (length-take-le at out (omega arith)))
 
   pub splice-from : drop at (splice out at bs) ≡ bs ++ drop (at + length bs) out
   unfolding splice
@@ -65,7 +66,8 @@ splice-then out at bs cs h =
     let s = splice out at bs in
     let front : take n s ≡ take at out ++ bs = splice-to out at bs h in
     let behind : drop (n + length cs) s ≡ drop (n + length cs) out =
-    sym (drop-drop (length cs) n s) ∙ ap (λ (l : List ℕ). drop (length cs) l) (splice-behind out at bs h) ∙ drop-drop (length cs) n out in
+    sym (drop-drop (length cs) n s) ∙ ap (λ (l : List ℕ). drop (length cs) l) (splice-behind out at bs h)
+    ∙ drop-drop (length cs) n out in
     let sum : at + length (bs ++ cs) ≡ n + length cs = omega (arith, length-append bs cs) in
     splice-is s n cs ∙ rw (front, behind, ← sum) (simp append-assoc) ∙ sym (splice-is out at (bs ++ cs))
 

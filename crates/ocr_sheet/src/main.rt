@@ -10,7 +10,7 @@ const PART: usize = 16384;
 fn main() {
     let mut bytes = [0u8; SHEET];
     let n = io::read_full(0, &mut bytes);
-    let mut memory = [0u64; session::names::WORDS];
+    let mut memory = [0u64; session::WORDS];
     session::write_fresh(&mut memory);
     let mut lines = [0u8; PART];
     let mut next = Next::At(0, 0);

@@ -1,2 +1,3 @@
+-- The steps that the proofs of this crate's functions share.
 mod ReadSteps
 mod WriteSteps

@@ -38,7 +38,8 @@ module _ (bytes : List ℕ) (first : ℕ) where
   }
 
   -- one field more, which meets check 4
-  remembered-more : (k : ℕ) → holds (clears 4 (nth bytes first k)) → refusal (check 4 (AllClear 4 k) ∷ []) ≡ refusal (check 4 (AllClear 4 (k + 1)) ∷ [])
+  remembered-more : (k : ℕ) → holds (clears 4 (nth bytes first k))
+      → refusal (check 4 (AllClear 4 k) ∷ []) ≡ refusal (check 4 (AllClear 4 (k + 1)) ∷ [])
   remembered-more k here = go (decide (AllClear 4 k))
     where
       go : Case (AllClear 4 k) → refusal (check 4 (AllClear 4 k) ∷ []) ≡ refusal (check 4 (AllClear 4 (k + 1)) ∷ [])

@@ -9,17 +9,17 @@ use lib.ListN.{length, length-append}
 use Rattle.number.specs.Number.{limit32, encode, splice}
 use Rattle.number.specs.Splice.{splice-none, splice-length, splice-then}
 use Rattle.rules.specs.declared.Operation.{Operation}
-use Rattle.rules.specs.Arity.{isCode}
+use Rattle.rules.specs.Arity.{isCode, fieldCount, fields-few}
 use Rattle.rules.specs.Checks.{check, refusal}
 use Rattle.rules.specs.Formula.{holds, Formula._≐_, Formula._≼_}
 use Rattle.rules.specs.FormulaLaws.{choose-yes, choose-no}
 use Rattle.rules.specs.Step.{arg}
 use Rattle.record.specs.declared.Place.the-variants.{Behind, Refused}
-use Rattle.record.specs.Reading.{fieldCount}
-use Rattle.record.specs.Writing.{recordRoom, fieldBytes, numbersBytes, recordBytes, within, writeRefusal, writtenAt, memoryAfter}
+use Rattle.record.specs.Writing.{recordRoom, fieldBytes, numbersBytes, recordBytes, within, writeRefusal, writtenAt}
+use Rattle.record.specs.Writing.{memoryAfter}
 use Rattle.record.specs.Refusals.{refusal-met, refusal-fails, refusal-empty, placed-none, placed-refused}
 use Rattle.record.specs.Fields.{fieldBytes-more}
-use Rattle.record.specs.Laws.{count-five, record-length}
+use Rattle.record.specs.Laws.{record-length}
 
 -- the bytes of fewer fields are fewer
 part : (f : ℕ → ℕ) (k n : ℕ) → k ≤ n → length (fieldBytes k f) ≤ length (fieldBytes n f)
@@ -27,7 +27,8 @@ unfolding fieldBytes
 part f k zero h = let z : k ≡ 0 = omega arith in rw z (omega arith)
 part f k (suc n) h = go (decLe k n) (part f k n)
   where
-    go : Dec (k ≤ n) → (k ≤ n → length (fieldBytes k f) ≤ length (fieldBytes n f)) → length (fieldBytes k f) ≤ length (fieldBytes (suc n) f)
+    go : Dec (k ≤ n) → (k ≤ n → length (fieldBytes k f) ≤ length (fieldBytes n f))
+        → length (fieldBytes k f) ≤ length (fieldBytes (suc n) f)
     go (yes l) fewer = omega (arith, fewer l, length-append (fieldBytes n f) (encode (f n)))
     go (no m) fewer = let e : k ≡ suc n = omega (arith, m) in rw e (omega arith)
 
@@ -49,7 +50,8 @@ module _ (out₀ : List ℕ) (at₀ : ℕ) (f : ℕ → ℕ) (n : ℕ) where
 
     module _ (l : k < n) where
       more : length (fieldBytes k f) + length (encode (f k)) ≤ length (fieldBytes n f)
-      more = omega (arith, part f (k + 1) n (omega arith), ap length (fieldBytes-more k f), length-append (fieldBytes k f) (encode (f k)))
+      more = omega
+          (arith, part f (k + 1) n (omega arith), ap length (fieldBytes-more k f), length-append (fieldBytes k f) (encode (f k)))
 
       pub put-room : at + length (encode (f k)) ≤ length out
       put-room = omega (arith, put-length, p .next-place, p .room, more)
@@ -58,7 +60,9 @@ module _ (out₀ : List ℕ) (at₀ : ℕ) (f : ℕ → ℕ) (n : ℕ) where
       put-more = record {
         room = p .room;
         count = omega arith;
-        bytes = rw (fieldBytes-more k f, p .bytes, p .next-place) (splice-then out₀ at₀ (fieldBytes k f) (encode (f k)) (omega (arith, p .room, more)));
+        bytes =
+            rw (fieldBytes-more k f, p .bytes, p .next-place)
+            (splice-then out₀ at₀ (fieldBytes k f) (encode (f k)) (omega (arith, p .room, more)));
         next-place = rw (fieldBytes-more k f) (omega (arith, p .next-place, length-append (fieldBytes k f) (encode (f k))));
       }
 
@@ -114,7 +118,8 @@ module _ (op : Operation) (out : List ℕ) (used : ℕ) where
 
         pub field-above : (n : ℕ) → n ≡ fieldCount (op .code) → (holds (within n (arg op)) → ⊥) → TurnedDown 4
         field-above n count above =
-            turned-down 4 (lit< tt) (last-check ∙ refusal-fails 4 (within (fieldCount (op .code)) (arg op)) [] (λ h. above (rw count h)))
+            turned-down 4 (lit< tt)
+            (last-check ∙ refusal-fails 4 (within (fieldCount (op .code)) (arg op)) [] (λ h. above (rw count h)))
 
         module _ (n : ℕ) (count : n ≡ fieldCount (op .code)) (h : holds (within n (arg op))) where
           all-within : holds (within (fieldCount (op .code)) (arg op))
@@ -122,7 +127,7 @@ module _ (op : Operation) (out : List ℕ) (used : ℕ) where
 
           pub bytes-fit : (n ≤ 5) × (used + length (numbersBytes (op .code) n (arg op)) ≤ length out)
           unfolding recordBytes
-          bytes-fit = rw count (count-five (op .code) known, omega (arith, record-length op (known, all-within)))
+          bytes-fit = rw count (fields-few (op .code) known, omega (arith, record-length op (known, all-within)))
 
           pub written : (next : ℕ) (after : List ℕ)
               → next ≡ used + length (numbersBytes (op .code) n (arg op))

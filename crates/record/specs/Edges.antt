@@ -1,5 +1,5 @@
 -- Document 01's listing as bytes, the order of the checks, and the room for a record, computed.
-use Prim.Native.Nat.{ℕ}
+use Prim.Native.Nat.{ℕ, suc}
 use mathlib.Core.List.{List, [], _∷_}
 use mathlib.Core.Path.{_≡_, refl}
 use lib.ListN.{replicate}
@@ -7,6 +7,7 @@ use Rattle.number.specs.Number.{encode, encodeIn, readAt, readFirst, judged, sh
 use Rattle.rules.specs.declared.Operation.{Operation}
 use Rattle.rules.specs.Formula.{test}
 use Rattle.rules.specs.Checks.{refusal}
+use Rattle.rules.specs.Step.{rules, lastCode}
 use Rattle.record.specs.declared.Place.the-variants.{Behind, Refused}
 use Rattle.record.specs.Reading.{behind, place, five, answered, placed, recordAt}
 use Rattle.record.specs.Writing.{fieldBytes, recordBytes, writtenAt}
@@ -27,11 +28,12 @@ operations =
     ∷ op 9 1 0 0 0 0 ∷ op 10 4 0 0 0 0 ∷ op 7 2 1 0 0 0 ∷ op 10 4 0 0 0 0 ∷ op 12 2 0 0 0 0 ∷ []
 
 pub listing-reads : contents listing ≡ record { refused = 0; operations = operations }
-unfolding contents recordsFrom recordAt answered refusal test five place refusalOf valueOf behind readAt readFirst judged shortest lastByte value more
+unfolding contents recordsFrom recordAt answered refusal test five place refusalOf valueOf behind readAt readFirst judged shortest
+    lastByte value more rules
 listing-reads = refl
 
 pub listing-written : sheetOf operations ≡ listing
-unfolding sheetOf recordsBytes recordBytes fieldBytes encode encodeIn
+unfolding sheetOf recordsBytes recordBytes fieldBytes encode encodeIn rules
 listing-written = refl
 
 -- the refusal at the start of these bytes
@@ -45,12 +47,13 @@ pub order : (refusedAt [] ≡ 3)
     × (refusedAt (137 ∷ 0 ∷ 1 ∷ []) ≡ 4)
     × (refusedAt (128 ∷ 128 ∷ 128 ∷ 128 ∷ 16 ∷ []) ≡ 4)
     × (refusedAt (0 ∷ []) ≡ 6)
-    × (refusedAt (13 ∷ 128 ∷ []) ≡ 6)
+    × (refusedAt (suc lastCode ∷ 128 ∷ []) ≡ 6)
     × (refusedAt (7 ∷ 128 ∷ 0 ∷ 128 ∷ []) ≡ 3)
     × (refusedAt (9 ∷ 128 ∷ 128 ∷ 128 ∷ 128 ∷ 128 ∷ 128 ∷ []) ≡ 3)
     × (refusedAt (7 ∷ 128 ∷ 0 ∷ 1 ∷ []) ≡ 4)
     × (refusedAt (7 ∷ 2 ∷ 1 ∷ []) ≡ 0)
 unfolding recordAt answered refusal test five place refusalOf valueOf behind readAt readFirst judged shortest lastByte value more
+    rules
 order = (refl, refl, refl, refl, refl, refl, refl, refl, refl, refl)
 
 -- The head: P7, the empty sheet, gives 3; a bad number 4; another number 5.
@@ -67,8 +70,8 @@ pub rooms : (writtenAt (op 9 1 0 0 0 0) (replicate 32 0) 0 ≡ Behind 2)
     × (writtenAt (op 9 1 0 0 0 0) (replicate 32 0) 1 ≡ Refused 1)
     × (writtenAt (op 9 1 0 0 0 0) (replicate 32 0) 40 ≡ Refused 1)
     × (writtenAt (op 4294967296 0 0 0 0 0) (replicate 32 0) 0 ≡ Refused 4)
-    × (writtenAt (op 13 4294967296 0 0 0 0) (replicate 32 0) 0 ≡ Refused 6)
+    × (writtenAt (op (suc lastCode) 4294967296 0 0 0 0) (replicate 32 0) 0 ≡ Refused 6)
     × (writtenAt (op 7 1 4294967296 0 0 0) (replicate 32 0) 0 ≡ Refused 4)
     × (writtenAt (op 7 1 2 4294967296 0 0) (replicate 32 0) 0 ≡ Behind 3)
-unfolding writtenAt placed refusal test recordBytes fieldBytes encode encodeIn
+unfolding writtenAt placed refusal test recordBytes fieldBytes encode encodeIn rules
 rooms = (refl, refl, refl, refl, refl, refl, refl)

@@ -77,7 +77,12 @@ pub fieldBytes-length : (n : ℕ) (f : ℕ → ℕ) → holds (within n f) → l
 unfolding fieldBytes
 fieldBytes-length zero f h = omega arith
 fieldBytes-length (suc n) f h =
-    omega (arith, length-append (fieldBytes n f) (encode (f n)), fieldBytes-length n f (λ k l. h k (omega arith)), length-32 (f n) (h n (omega arith)))
+    omega (
+      arith,
+      length-append (fieldBytes n f) (encode (f n)),
+      fieldBytes-length n f (λ k l. h k (omega arith)),
+      length-32 (f n) (h n (omega arith)),
+    )
 
 -- The numbers from a place on: none, and one more.
 pub place-none : (bytes : List ℕ) (at : ℕ) → place bytes at 0 ≡ at
@@ -108,7 +113,8 @@ pub fields-back : (bytes : List ℕ) (first n : ℕ) (f : ℕ → ℕ) (rest : L
 unfolding fieldBytes
 fields-back bytes first zero f rest h s = record { reads = below-none _; ends = place-none bytes first ∙ omega arith }
 fields-back bytes first (suc n) f rest h s =
-    let split : drop first bytes ≡ fieldBytes n f ++ (encode (f n) ++ rest) = s ∙ append-assoc (fieldBytes n f) (encode (f n)) rest in
+    let split : drop first bytes ≡ fieldBytes n f ++ (encode (f n) ++ rest) =
+    s ∙ append-assoc (fieldBytes n f) (encode (f n)) rest in
     let b = fields-back bytes first n f (encode (f n) ++ rest) (λ k l. h k (omega arith)) split in
     let stands : drop (place bytes first n) bytes ≡ encode (f n) ++ rest =
     rw (b .ends) (stands-behind bytes first (fieldBytes n f) (encode (f n) ++ rest) split) in
@@ -129,7 +135,8 @@ pub record Onward (bytes : List ℕ) (first n : ℕ) : Type 0 where
   pub limited : holds (within n (λ k. valueOf (nth bytes first k)))
 
 pub fields-onward : (bytes : List ℕ) (first n : ℕ) → first ≤ length bytes → AllRead bytes first n → Onward bytes first n
-fields-onward bytes first zero h all = let z = place-none bytes first in record { onward = omega arith; inside = omega arith; limited = below-none _ }
+fields-onward bytes first zero h all =
+    let z = place-none bytes first in record { onward = omega arith; inside = omega arith; limited = below-none _ }
 fields-onward bytes first (suc n) h all =
     let o = fields-onward bytes first n h (λ k l. all k (omega arith)) in
     let v = value-next limit32 bytes (place bytes first n) _ _ (all n (omega arith)) in
@@ -156,6 +163,7 @@ fields-again bytes first (suc n) are all =
     let a = fields-again bytes first n are (λ k l. all k (omega arith)) in
     let w = rewritten limit32 bytes (place bytes first n) (f n) (place bytes first (suc n)) are (all n (omega arith)) in
     record {
-      stands = a .stands ∙ ap (λ (l : List ℕ). fieldBytes n f ++ l) (w .stands) ∙ sym (append-assoc (fieldBytes n f) (encode (f n)) _);
+      stands =
+          a .stands ∙ ap (λ (l : List ℕ). fieldBytes n f ++ l) (w .stands) ∙ sym (append-assoc (fieldBytes n f) (encode (f n)) _);
       ends = omega (arith, w .next-place, a .ends, length-append (fieldBytes n f) (encode (f n)));
     }

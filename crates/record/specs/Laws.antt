@@ -3,7 +3,7 @@
 -- the type of recordAt: it is given nothing else.)
 use Prim.Native.Nat.{ℕ, _+_, _≤_, _<_}
 use mathlib.Core.List.{List, [], _++_, append-assoc}
-use mathlib.Core.Path.{_≡_, refl, ap, sym, _∙_}
+use mathlib.Core.Path.{_≡_, ap, sym, _∙_}
 use native.Mathlib.Omega.{arith}
 use lib.Dec.{lit<, lit≤}
 use lib.ListN.{length, drop, length-append, take-append-drop}
@@ -12,35 +12,35 @@ use Rattle.number.specs.Encode.{encode-one}
 use Rattle.number.specs.Splice.{splice-from, splice-is}
 use Rattle.number.specs.Laws.{read-back, rewritten, value-next, length-some, stands-behind}
 use Rattle.rules.specs.declared.Operation.{Operation}
-use Rattle.rules.specs.Arity.{isCode}
+use Rattle.rules.specs.Arity.{isCode, fieldCount, fields-few}
 use Rattle.rules.specs.Checks.{refusal}
-use Rattle.rules.specs.Formula.{holds, test, Formula.each, Formula._≐_, Formula._≼_}
-use Rattle.rules.specs.FormulaLaws.{passed, choose-yes}
+use Rattle.rules.specs.Formula.{holds, Formula._≐_, Formula._≼_}
+use Rattle.rules.specs.FormulaLaws.{choose-yes}
 use Rattle.rules.specs.Step.{arg}
-use Rattle.record.specs.Reading.{place, nth, fieldCount, five, operation, operationAt, codeAt, firstField, countAt, recordChecks, recordAt}
+use Rattle.record.specs.Reading.{place, nth, five, operation, operationAt, codeAt, firstField, countAt, recordChecks}
+use Rattle.record.specs.Reading.{recordAt}
 use Rattle.record.specs.Refusals.{refusal-none, refusal-most, answered-number}
-use Rattle.record.specs.Fields.{five-same, five-at, fieldBytes-same, fieldBytes-length, AllRead, fields-back, fields-onward, fields-again}
-use Rattle.record.specs.Cases.{record-known, fields-read, accepted}
+use Rattle.record.specs.Fields.{five-same, five-at, fieldBytes-same, fieldBytes-length, AllRead, fields-back, fields-onward}
+use Rattle.record.specs.Fields.{fields-again}
+use Rattle.record.specs.RecordCases.{record-known, fields-read, accepted}
 use Rattle.record.specs.Writing.{recordRoom, fieldBytes, recordBytes, within, isRecordable, own, writeRefusal, memoryAfter}
-
--- No operation has more than five fields.
-pub count-five : (code : ℕ) → holds (isCode code) → fieldCount code ≤ 5
-unfolding test
-count-five code h = passed (each 13 (λ c. fieldCount c ≼ 5)) refl code (omega arith)
 
 -- What an operation is, is what is written of it.
 pub own-arg : (op : Operation) (k : ℕ) → holds (isCode (op .code)) → k < fieldCount (op .code) → arg (own op) k ≡ arg op k
 unfolding own
-own-arg op k h l = five-at (fieldCount (op .code)) (arg op) k (count-five (op .code) h) l
+own-arg op k h l = five-at (fieldCount (op .code)) (arg op) k (fields-few (op .code) h) l
 
 pub own-bytes : (op : Operation) → holds (isCode (op .code)) → recordBytes (own op) ≡ recordBytes op
 unfolding recordBytes own
-own-bytes op h = ap (λ (l : List ℕ). encode (op .code) ++ l) (fieldBytes-same (fieldCount (op .code)) (arg (own op)) (arg op) (λ k. own-arg op k h))
+own-bytes op h =
+    ap (λ (l : List ℕ). encode (op .code) ++ l)
+    (fieldBytes-same (fieldCount (op .code)) (arg (own op)) (arg op) (λ k. own-arg op k h))
 
 pub own-own : (op : Operation) → holds (isCode (op .code)) → own (own op) ≡ own op
 unfolding own
 own-own op h =
-    ap (λ (l : List ℕ). record { code = op .code; fields = l }) (five-same (fieldCount (op .code)) (arg (own op)) (arg op) (λ k. own-arg op k h))
+    ap (λ (l : List ℕ). record { code = op .code; fields = l })
+    (five-same (fieldCount (op .code)) (arg (own op)) (arg op) (λ k. own-arg op k h))
 
 pub own-recordable : (op : Operation) → holds (isRecordable op) → holds (isRecordable (own op))
 unfolding own
@@ -52,11 +52,18 @@ unfolding recordBytes
 record-length op h =
     let n = fieldCount (op .code) in
     let one : length (encode (op .code)) ≡ 1 = ap length (encode-one (op .code) (let l = h .0 .1 in omega arith)) in
-    omega (arith, one, length-append (encode (op .code)) (fieldBytes n (arg op)), fieldBytes-length n (arg op) (h .1), count-five (op .code) (h .0))
+    omega (
+      arith,
+      one,
+      length-append (encode (op .code)) (fieldBytes n (arg op)),
+      fieldBytes-length n (arg op) (h .1),
+      fields-few (op .code) (h .0),
+    )
 
 pub record-some : (op : Operation) → 0 < length (recordBytes op)
 unfolding recordBytes
-record-some op = omega (arith, length-append (encode (op .code)) (fieldBytes (fieldCount (op .code)) (arg op)), length-some (op .code))
+record-some op =
+    omega (arith, length-append (encode (op .code)) (fieldBytes (fieldCount (op .code)) (arg op)), length-some (op .code))
 
 -- What is written reads back as itself.
 pub record-back : (bytes : List ℕ) (at : ℕ) (op : Operation) (rest : List ℕ)
@@ -68,13 +75,15 @@ record-back bytes at op rest h s =
     let code = op .code in
     let n = fieldCount code in
     let first = at + length (encode code) in
-    let split : drop at bytes ≡ encode code ++ (fieldBytes n (arg op) ++ rest) = s ∙ append-assoc (encode code) (fieldBytes n (arg op)) rest in
+    let split : drop at bytes ≡ encode code ++ (fieldBytes n (arg op) ++ rest) =
+    s ∙ append-assoc (encode code) (fieldBytes n (arg op)) rest in
     let head = read-back limit32 bytes at code (fieldBytes n (arg op) ++ rest) (let l = h .0 .1 in omega arith) split in
     let b = fields-back bytes first n (arg op) rest (h .1) (stands-behind bytes at (encode code) _ split) in
     let values : (k : ℕ) → k < n → valueOf (nth bytes first k) ≡ arg op k = λ k l. ap valueOf (b .reads k l) in
     let all : AllRead bytes first n = λ k l. rw (values k l) (b .reads k l) in
     let fields : five n (λ k. valueOf (nth bytes first k)) ≡ five n (arg op) = five-same n _ (arg op) values in
-    let next : place bytes first n ≡ at + length (recordBytes op) = omega (arith, b .ends, length-append (encode code) (fieldBytes n (arg op))) in
+    let next : place bytes first n ≡ at + length (recordBytes op) =
+    omega (arith, b .ends, length-append (encode code) (fieldBytes n (arg op))) in
     record-known bytes at code first head (h .0)
     ∙ fields-read bytes code first n all
     ∙ cc (fields, next)
@@ -97,7 +106,7 @@ record-forward bytes at e =
     let n = countAt bytes at in
     let f : ℕ → ℕ = λ k. valueOf (nth bytes first k) in
     let op = operationAt bytes code first n in
-    let same : (k : ℕ) → k < n → arg op k ≡ f k = λ k l. five-at n f k (count-five code (r .known)) l in
+    let same : (k : ℕ) → k < n → arg op k ≡ f k = λ k l. five-at n f k (fields-few code (r .known)) l in
     let head = value-next limit32 bytes at code first (r .code-read) in
     let on = fields-onward bytes first n (head .2) (r .fields) in
     let forward : Forward bytes at op (place bytes first n) =
@@ -134,7 +143,7 @@ record-again bytes at are e =
     let f : ℕ → ℕ = λ k. valueOf (nth bytes first k) in
     let op = operationAt bytes code first n in
     let written : fieldBytes n (arg op) ≡ fieldBytes n f =
-    fieldBytes-same n (arg op) f (λ k l. five-at n f k (count-five code (r .known)) l) in
+    fieldBytes-same n (arg op) f (λ k l. five-at n f k (fields-few code (r .known)) l) in
     let head = rewritten limit32 bytes at code first are (r .code-read) in
     let fields = fields-again bytes first n are (r .fields) in
     let again : Rewritten bytes at op (place bytes first n) =

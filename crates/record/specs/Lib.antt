@@ -3,7 +3,7 @@ pub mod Writing
 pub mod Sheet
 pub mod Refusals
 pub mod Fields
-pub mod Cases
+pub mod RecordCases
 pub mod Laws
 pub mod SheetLaws
 pub mod Edges

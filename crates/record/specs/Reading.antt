@@ -3,13 +3,12 @@
 use Prim.Native.Nat.{ℕ, zero, suc}
 use mathlib.Core.List.{List, [], _∷_}
 use lib.Dec.{ltb}
-use lib.ListN.{getD}
 use Rattle.number.specs.Number.{limit32, readAt, refusalOf, valueOf}
 use Rattle.number.specs.declared.Reading.{Reading}
 use Rattle.number.specs.declared.Reading.the-variants.{Value, Bad, CutShort}
 use Rattle.session.specs.Table.{pick}
 use Rattle.rules.specs.declared.Operation.{Operation}
-use Rattle.rules.specs.Arity.{fieldCounts, isCode}
+use Rattle.rules.specs.Arity.{fieldCount, isCode}
 use Rattle.rules.specs.Checks.{Check, check, refusal}
 use Rattle.rules.specs.Formula.{Formula, not, choose, Formula._≐_, Formula.each}
 use Rattle.record.specs.declared.Record.{Record}
@@ -37,10 +36,6 @@ clears check r = not (refusalOf r ≐ check)
 -- a number meets 3, then 4, before the checks that follow
 abbrev pub numberChecks : Reading → List Check → List Check
 numberChecks r cs = check 3 (clears 3 r) ∷ check 4 (clears 4 r) ∷ cs
-
--- how many fields an operation of a known code has
-abbrev pub fieldCount : ℕ → ℕ
-fieldCount code = getD fieldCounts code 0
 
 -- five fields: these at the first n places, and 0 at the others
 abbrev pub oneOf : ℕ → (ℕ → ℕ) → ℕ → ℕ
@@ -102,4 +97,5 @@ module _ (bytes : List ℕ) where
 
   unfoldable pub recordAt : ℕ → Record
   recordAt at =
-      answered (refusal (recordChecks at)) (operationAt (codeAt at) (firstField at) (countAt at)) (place bytes (firstField at) (countAt at))
+      answered (refusal (recordChecks at)) (operationAt (codeAt at) (firstField at) (countAt at))
+      (place bytes (firstField at) (countAt at))

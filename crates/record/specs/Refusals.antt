@@ -69,7 +69,8 @@ module _ (cs : List Check) where
   pub number-bad : (r : Reading) (next : ℕ) → r ≡ Bad next → refusal (numberChecks r cs) ≡ 4
   unfolding refusalOf
   number-bad r next e =
-      refusal-met 3 (clears 3 r) _ (λ c. (let f = ap refusalOf e in omega arith)) ∙ refusal-fails 4 (clears 4 r) cs (λ c. c (ap refusalOf e))
+      refusal-met 3 (clears 3 r) _ (λ c. (let f = ap refusalOf e in omega arith))
+      ∙ refusal-fails 4 (clears 4 r) cs (λ c. c (ap refusalOf e))
 
   pub number-value : (r : Reading) (v next : ℕ) → r ≡ Value v next → refusal (numberChecks r cs) ≡ refusal cs
   unfolding refusalOf

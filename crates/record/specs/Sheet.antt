@@ -43,7 +43,8 @@ stopped n = record { refused = n; operations = [] }
 
 -- a record, and what follows it
 abbrev pub followed : Record → Contents → Contents
-followed r c = choose (r .refused ≐ 0) (record { refused = c .refused; operations = r .operation ∷ c .operations }) (stopped (r .refused))
+followed r c =
+    choose (r .refused ≐ 0) (record { refused = c .refused; operations = r .operation ∷ c .operations }) (stopped (r .refused))
 
 -- The records from a place on, in so many steps. Each takes a byte at least, so that the sheet's length is steps enough.
 unfoldable pub recordsFrom : List ℕ → ℕ → ℕ → Contents

@@ -15,15 +15,25 @@ use Rattle.rules.specs.FormulaLaws.{Case, decide, choose-yes, choose-no, Case.i
 use Rattle.record.specs.declared.Record.{Record}
 use Rattle.record.specs.declared.Place.the-variants.{Behind, Refused}
 use Rattle.record.specs.Reading.{behind, recordAt}
-use Rattle.record.specs.Refusals.{refusal-met, refusal-fails, refusal-none, refusal-empty, number-cut, number-bad, number-value, number-none, placed-none, placed-refused}
+use Rattle.record.specs.Refusals.{refusal-met, refusal-fails, refusal-none, refusal-empty, number-cut, number-bad}
+use Rattle.record.specs.Refusals.{number-value, number-none, placed-none, placed-refused}
 use Rattle.record.specs.Laws.{record-some, record-back, record-forward, record-again}
 use Rattle.record.specs.Writing.{recordBytes, isRecordable, own}
-use Rattle.record.specs.Sheet.{headRefusal, firstRecord, headAt, recordsBytes, sheetOf, Contents, stopped, followed, recordsFrom, contents}
+use Rattle.record.specs.Sheet.{headRefusal, firstRecord, headAt, recordsBytes, sheetOf, Contents, stopped, followed}
+use Rattle.record.specs.Sheet.{recordsFrom, contents}
 
 -- every operation of a list can be written
 pub data AllRecordable : List Operation → Type 0 where
   none : AllRecordable []
   one : {op : Operation} {ops : List Operation} → holds (isRecordable op) → AllRecordable ops → AllRecordable (op ∷ ops)
+
+-- A record without a refusal stands in front of what follows it; one with a refusal stops.
+pub followed-on : (r : Record) (c : Contents) → r .refused ≡ 0
+    → followed r c ≡ record { refused = c .refused; operations = r .operation ∷ c .operations }
+followed-on r c z = choose-yes (r .refused ≐ 0) _ _ z
+
+pub followed-stop : (r : Record) (c : Contents) → (r .refused ≡ 0 → ⊥) → followed r c ≡ stopped (r .refused)
+followed-stop r c n = choose-no (r .refused ≐ 0) _ _ n
 
 -- A record and what follows it are without a refusal where both are.
 followed-none : (r : Record) (c : Contents)
@@ -33,20 +43,18 @@ followed-none r c e = go (decide (r .refused ≐ 0))
   where
     go : Case (r .refused ≐ 0) → (r .refused ≡ 0) × (c .refused ≡ 0) × (followed r c .operations ≡ r .operation ∷ c .operations)
     go (it-does z) =
-        let f = choose-yes (r .refused ≐ 0) (record { refused = c .refused; operations = r .operation ∷ c .operations }) (stopped (r .refused)) z in
+        let f = followed-on r c z in
         (z, ap (λ (x : Contents). x .refused) (sym f) ∙ e, ap (λ (x : Contents). x .operations) f)
-    go (it-does-not n) =
-        let f = choose-no (r .refused ≐ 0) (record { refused = c .refused; operations = r .operation ∷ c .operations }) (stopped (r .refused)) n in
-        absurd (n (ap (λ (x : Contents). x .refused) (sym f) ∙ e))
+    go (it-does-not n) = absurd (n (ap (λ (x : Contents). x .refused) (sym (followed-stop r c n)) ∙ e))
 
 -- Reading records: at the end, and before it.
 module _ (bytes : List ℕ) where
-  records-end : (steps at : ℕ) → length bytes ≤ at → recordsFrom bytes steps at ≡ stopped 0
+  pub records-end : (steps at : ℕ) → length bytes ≤ at → recordsFrom bytes steps at ≡ stopped 0
   unfolding recordsFrom
   records-end zero at h = refl
   records-end (suc steps) at h = choose-yes (length bytes ≼ at) _ _ h
 
-  records-next : (steps at : ℕ)
+  pub records-next : (steps at : ℕ)
       → at < length bytes
       → recordsFrom bytes (suc steps) at ≡ followed (recordAt bytes at) (recordsFrom bytes steps (recordAt bytes at .next))
   unfolding recordsFrom
@@ -66,9 +74,11 @@ module _ (bytes : List ℕ) where
       no h = omega (arith, ap length s, length-drop at bytes, length-append (recordBytes op) (recordsBytes ops), record-some op)
   records-back (suc steps) at (op ∷ ops) (one r all) h s =
       let next = at + length (recordBytes op) in
-      let more : length (drop at bytes) ≡ length (recordBytes op) + length (recordsBytes ops) = rw s (length-append (recordBytes op) (recordsBytes ops)) in
+      let more : length (drop at bytes) ≡ length (recordBytes op) + length (recordsBytes ops) =
+      rw s (length-append (recordBytes op) (recordsBytes ops)) in
       let read = record-back bytes at op (recordsBytes ops) r s in
-      let rest = records-back steps next ops all (omega (arith, record-some op)) (stands-behind bytes at (recordBytes op) (recordsBytes ops) s) in
+      let rest = records-back steps next ops all (omega (arith, record-some op))
+      (stands-behind bytes at (recordBytes op) (recordsBytes ops) s) in
       records-next steps at (omega (arith, more, record-some op, length-drop at bytes))
       ∙ rw (read, rest) (choose-yes (0 ≐ 0) _ _ refl)
 
@@ -143,7 +153,8 @@ module _ (bytes : List ℕ) where
   contents-stopped n = choose-no (headRefusal bytes ≐ 0) _ _ n
 
 -- The sheet of operations reads as those operations.
-pub sheet-back : (ops : List Operation) → AllRecordable ops → contents (sheetOf ops) ≡ record { refused = 0; operations = map own ops }
+pub sheet-back : (ops : List Operation) → AllRecordable ops
+    → contents (sheetOf ops) ≡ record { refused = 0; operations = map own ops }
 unfolding sheetOf behind
 sheet-back ops all =
     let bytes = sheetOf ops in
@@ -162,6 +173,7 @@ sheet-again bytes are e = go (decide (headRefusal bytes ≐ 0))
     go (it-does z) =
         let c = contents-read bytes z in
         let w = rewritten limit32 bytes 0 1 (firstRecord bytes) are (head-none bytes z) in
-        let again = records-again bytes (length bytes) (firstRecord bytes) are (omega arith) (ap (λ (x : Contents). x .refused) (sym c) ∙ e) in
+        let again = records-again bytes (length bytes) (firstRecord bytes) are (omega arith)
+        (ap (λ (x : Contents). x .refused) (sym c) ∙ e) in
         rw c (sym (w .stands ∙ ap (λ (l : List ℕ). encode 1 ++ l) again))
     go (it-does-not n) = absurd (n (ap (λ (x : Contents). x .refused) (sym (contents-stopped bytes n)) ∙ e))

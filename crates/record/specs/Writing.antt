@@ -4,12 +4,12 @@ use mathlib.Core.List.{List, [], _∷_, _++_}
 use lib.ListN.{length}
 use Rattle.number.specs.Number.{limit32, encode, splice}
 use Rattle.rules.specs.declared.Operation.{Operation}
-use Rattle.rules.specs.Arity.{isCode}
+use Rattle.rules.specs.Arity.{isCode, fieldCount}
 use Rattle.rules.specs.Checks.{Check, check, refusal}
 use Rattle.rules.specs.Formula.{Formula, choose, Formula._≐_, Formula._≼_, Formula._and_, Formula.each}
 use Rattle.rules.specs.Step.{arg}
 use Rattle.record.specs.declared.Place.{Place}
-use Rattle.record.specs.Reading.{fieldCount, operation, placed}
+use Rattle.record.specs.Reading.{operation, placed}
 
 -- "the line or record memory has under 32 bytes free"
 abbrev pub recordRoom : ℕ

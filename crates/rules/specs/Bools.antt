@@ -4,7 +4,8 @@ use mathlib.Core.Path.{_≡_, refl}
 use mathlib.Core.Bool.{Bool, true, false, _&&_, _||_, not}
 use lib.Dec.{eqb, leb, ltb}
 use Rattle.session.specs.Table.{pick}
-use Rattle.rules.specs.Formula.{Formula, holds, test, choose, Formula._≐_, Formula._≼_, Formula._and_, Formula._or_, Formula._then_, Formula.never}
+use Rattle.rules.specs.Formula.{Formula, holds, test, choose, Formula._≐_, Formula._≼_, Formula._and_, Formula._or_}
+use Rattle.rules.specs.Formula.{Formula._then_, Formula.never}
 
 pub test-eq : (a b : ℕ) → test (a ≐ b) ≡ eqb a b
 unfolding test
@@ -57,3 +58,9 @@ chosen x f e = rw e (go (test f))
     go : (b : Bool) → eqb (pick b 1 0) 1 ≡ b
     go true = refl
     go false = refl
+
+-- the end of a list of choices
+pub or-never : (b : Bool) → (b || test never) ≡ b
+unfolding test
+or-never true = refl
+or-never false = refl

@@ -3,11 +3,16 @@
 use Prim.Native.Nat.{ℕ, _+_, _*_, _/_}
 use mathlib.Core.List.{List, [], _∷_}
 use Rattle.session.specs.Table.{Session}
-use Rattle.session.specs.declared.Field.the-variants.{Objects, Links, TemplateCount, TaskState, TaskSlots, BlockState, BlockCreator, BlockHeld, SlotMode, SlotMark, SlotPayload, LinkState}
-use Rattle.session.specs.Names.{mostObjects, mostLinks, template, task, event, block, unknownCount, resolved, granted, running, latch, ready, held, blockDestroyed, modeRW}
-use Rattle.rules.specs.Formula.{Formula, not, choose, Formula._≐_, Formula._≼_, Formula._and_, Formula._or_, Formula._then_, Formula.each, Formula.some}
-use Rattle.rules.specs.Reading.{at, made, isKind, isUserEvent, isRunning, isGone, hasSlot, holdsBlock, overflows, isFiredSticky}
+use Rattle.session.specs.declared.Field.the-variants.{Objects, Links, TemplateCount, TaskState, TaskSlots, BlockState}
+use Rattle.session.specs.declared.Field.the-variants.{BlockCreator, BlockHeld, SlotMode, SlotMark, SlotPayload, LinkState}
+use Rattle.session.specs.Names.{mostObjects, mostLinks, template, task, event, block, unknownCount, resolved, granted, running}
+use Rattle.session.specs.Names.{ready, held, blockDestroyed, modeRW}
+use Rattle.rules.specs.Formula.{Formula, not, choose, Formula._≐_, Formula._≼_, Formula._and_, Formula._or_, Formula._then_}
+use Rattle.rules.specs.Formula.{Formula.each, Formula.some}
+use Rattle.rules.specs.Reading.{at, made, isKind, isUserEvent, isRunning, isGone, hasSlot, holdsBlock, overflows}
+use Rattle.rules.specs.Reading.{isFiredSticky}
 use Rattle.rules.specs.Modes.{isMode, stoppedBy}
+use Rattle.rules.specs.EventTypes.{isOfferedType}
 
 -- a check: its number, and what the operation must meet
 pub record Check : Type 0 where
@@ -16,6 +21,10 @@ pub record Check : Type 0 where
 
 abbrev pub check : ℕ → Formula → Check
 check n f = record { number = n; rule = f }
+
+-- the largest number of a check
+abbrev pub lastRefusal : ℕ
+lastRefusal = 21
 
 -- "Each check covers all fields before the next check": the number of the first that fails, 0 if none does.
 unfoldable pub refusal : List Check → ℕ
@@ -53,7 +62,7 @@ module _ (s : Session) where
 
   -- "3 event (caller, type 1..4)."
   abbrev pub eventChecks : ℕ → ℕ → List Check
-  eventChecks caller ty = check 7 (1 ≼ ty and ty ≼ latch) ∷ check 8 (isRunning s caller) ∷ room 1 ∷ []
+  eventChecks caller ty = check 7 (isOfferedType ty) ∷ check 8 (isRunning s caller) ∷ room 1 ∷ []
 
   -- "4 block (caller, hold 0..1)."
   abbrev pub blockChecks : ℕ → ℕ → List Check

@@ -12,7 +12,10 @@ use Rattle.rules.specs.Formula.{Formula, holds, test, count, Formula._�
 use Rattle.rules.specs.FormulaLaws.{passed}
 use Rattle.rules.specs.Reading.{under}
 use Rattle.rules.specs.Checks.{refusal}
-use Rattle.rules.specs.Effects.{new, newTemplate, newEvent, newTask, makeTask, newBlock, fire, fireOne, satisfySlot, tally, satisfyEvent, satisfy, claim, newLink, depend, buryDoomed, letGo, release, destroyEvent, fireFinished, destroyTask, destroyBlock, destroy, drops, deliver, grant, start, end}
+use Rattle.rules.specs.EventTypes.{ofType}
+use Rattle.rules.specs.Effects.{new, newTemplate, newEvent, newTask, makeTask, newBlock, fire, fireOne, satisfySlot, tally}
+use Rattle.rules.specs.Effects.{satisfyEvent, satisfy, claim, newLink, depend, buryDoomed, letGo, release, destroyEvent}
+use Rattle.rules.specs.Effects.{fireFinished, destroyTask, destroyBlock, destroy, drops, deliver, grant, start, end}
 use Rattle.rules.specs.Step.{rules, answer, after, outcome}
 
 abbrev call : ℕ → List ℕ → Operation
@@ -140,5 +143,5 @@ allMet [] = 0 ≐ 0
 allMet (e ∷ es) = isMet e and allMet es
 
 pub edges-met : holds (allMet edges)
-unfolding plays put change test count under refusal new newTemplate newEvent newTask makeTask newBlock fire fireOne satisfySlot tally satisfyEvent satisfy claim newLink depend buryDoomed letGo release destroyEvent fireFinished destroyTask destroyBlock destroy drops deliver grant start end rules freshSession answer after outcome
+unfolding plays put change test ofType count under refusal new newTemplate newEvent newTask makeTask newBlock fire fireOne satisfySlot tally satisfyEvent satisfy claim newLink depend buryDoomed letGo release destroyEvent fireFinished destroyTask destroyBlock destroy drops deliver grant start end rules freshSession answer after outcome
 edges-met = passed (allMet edges) refl

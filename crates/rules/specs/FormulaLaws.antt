@@ -7,7 +7,8 @@ use native.Mathlib.Omega.{arith}
 use native.Mathlib.Decide.{decLt}
 use borrow.Author.Tests.{eqb-true, eqb-false, leb-true, leb-false}
 use lib.Dec.{T, eqb, leb}
-use Rattle.rules.specs.Formula.{Formula, holds, test, allOf, anyOf, choose, Formula._≐_, Formula._≼_, Formula._and_, Formula._or_, Formula._then_, Formula.never, Formula.each, Formula.some}
+use Rattle.rules.specs.Formula.{Formula, holds, test, allOf, anyOf, choose, Formula._≐_, Formula._≼_, Formula._and_}
+use Rattle.rules.specs.Formula.{Formula._or_, Formula._then_, Formula.never, Formula.each, Formula.some}
 
 -- a formula holds or does not, and its test says which
 pub data Told (b : Bool) (P : Type 0) : Type 0 where
@@ -170,6 +171,10 @@ test-same f g to from = go (decide f)
     go : Case f → test f ≡ test g
     go (it-does x) = passes f x ∙ sym (passes g (to x))
     go (it-does-not n) = fails f n ∙ sym (fails g (λ y. n (from y)))
+
+-- and a choice by the one is a choice by the other
+pub choose-same : {A : Type 0} (f g : Formula) (a b : A) → (holds f → holds g) → (holds g → holds f) → choose f a b ≡ choose g a b
+choose-same f g a b to from = rw (test-same f g to from)
 
 -- what holds of both holds of the one that is chosen
 pub choose-case {ℓ} : {A : Type ℓ} (P : A → Type 0) (f : Formula) (a b : A) → (holds f → P a) → ((holds f → ⊥) → P b) → P (choose f a b)

@@ -6,7 +6,8 @@ use lib.ListN.{length}
 use lib.Dec.{leb}
 use Rattle.session.specs.Names.{block, task, fresh, resolved, modeRW, satisfied}
 use Rattle.session.specs.Table.{Session, Wrote, put, pick, words, at}
-use Rattle.session.specs.declared.Field.the-variants.{Objects, Kind, TaskState, TaskSlots, BlockState, SlotMode, SlotMark, SlotPayload}
+use Rattle.session.specs.declared.Field.the-variants.{Objects, Kind, TaskState, TaskSlots, BlockState, SlotMode, SlotMark}
+use Rattle.session.specs.declared.Field.the-variants.{SlotPayload}
 
 -- Unused parts are zero.
 unfoldable pub emptySession : Session

@@ -23,7 +23,8 @@ zeros-empty ws z = fun-ext (λ f. fun-ext (λ i. go f i (ltb i (size f)) refl))
     go f i false e = refl
 
 -- one more word made zero
-pub zeros-more : (ws : List ℕ) (i : ℕ) → i < length ws → ((k : ℕ) → k < i → getD ws k 0 ≡ 0) → (k : ℕ) → k < i + 1 → getD (set ws i 0) k 0 ≡ 0
+pub zeros-more : (ws : List ℕ) (i : ℕ) → i < length ws → ((k : ℕ) → k < i → getD ws k 0 ≡ 0) → (k : ℕ) → k < i + 1
+    → getD (set ws i 0) k 0 ≡ 0
 zeros-more ws i h z k l = go (decLt k i)
   where
     go : Dec (k < i) → getD (set ws i 0) k 0 ≡ 0

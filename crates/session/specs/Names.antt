@@ -1,5 +1,5 @@
--- The numbers of kinds, states, types, modes and marks, as they stand in a session's memory.
-use Prim.Native.Nat.{ℕ}
+-- How much a session holds, and the numbers of kinds, states, types, modes and marks, as they stand in a session's memory.
+use Prim.Native.Nat.{ℕ, _+_, _*_}
 
 -- A session has at most 512 objects and 2,048 links.
 abbrev pub mostObjects : ℕ
@@ -7,6 +7,17 @@ mostObjects = 512
 
 abbrev pub mostLinks : ℕ
 mostLinks = 2048
+
+-- A field has a place for each handle or link, and one for 0, which names none.
+abbrev pub objectPlaces : ℕ
+objectPlaces = mostObjects + 1
+
+abbrev pub linkPlaces : ℕ
+linkPlaces = mostLinks + 1
+
+-- A task has at most 16 pre-slots: so many places for each handle.
+abbrev pub slotPlaces : ℕ
+slotPlaces = 16 * objectPlaces
 
 -- Kinds of object. A task is OCR's EDT (event-driven task), a block its data block, a handle its GUID.
 abbrev pub template : ℕ

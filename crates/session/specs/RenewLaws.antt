@@ -1,49 +1,94 @@
 -- Clearing field by field, and that a tidy session cleared where it is used is the empty one.
-use Prim.Native.Nat.{ℕ, _+_, _*_, _≤_, _<_}
+use Prim.Native.Nat.{ℕ, zero, suc, _+_, _≤_, _<_}
 use mathlib.Core.Path.{_≡_, refl, fun-ext, sym, ap}
 use mathlib.Core.Bool.{Bool, true, false}
-use mathlib.Core.List.{List}
+use mathlib.Core.List.{List, [], _∷_}
 use native.Mathlib.Omega.{arith}
-use lib.Dec.{ltb, leb, eqb}
-use lib.ListN.{length, set}
-use borrow.Author.Tests.{eqb-true, eqb-false, leb-true, ltb-true, ltb-false, lt-ltb, le-ltb, le-leb}
-use Rattle.session.specs.Names.{mostObjects, mostLinks}
-use Rattle.session.specs.Table.{Session, Wrote, read, sweep, pick, both, code, base, size, words}
-use Rattle.session.specs.TableLaws.{sweep-more, wrote-none, wrote-then, wrote-word, wrote-more}
+use lib.Dec.{T, ltb, eqb, eqb→eq}
+use lib.ListN.{length, getD, set, take}
+use borrow.Author.Tests.{eqb-false, ltb-true, ltb-false, lt-ltb, le-ltb}
+use Rattle.session.specs.Names.{mostObjects, mostLinks, objectPlaces, linkPlaces}
+use Rattle.session.specs.Table.{Session, Wrote, Class, Class.always, Class.perHandle, Class.perSlot, Class.perLink, read}
+use Rattle.session.specs.Table.{sweep, pick, both, class, placesOf, code, same, fields, wordsOf, base, size, words}
+use Rattle.session.specs.TableLaws.{bounded, inside, both-l, both-r, same-eq, sweep-more, wrote-none, wrote-then}
+use Rattle.session.specs.TableLaws.{wrote-word, wrote-more}
 use Rattle.session.specs.Fresh.{emptySession}
-use Rattle.session.specs.Renew.{Tidy, used, cleared, clearedUpTo}
+use Rattle.session.specs.Renew.{Tidy, Zeroed, used, placesIn, cleared}
 use Rattle.session.specs.declared.Field.{Field}
-use Rattle.session.specs.declared.Field.the-variants.{Objects, Links, Dropped, Kind, TemplateState, TemplateCount, TaskState, TaskCreator, TaskSlots, TaskFinish, TaskOutput, EventState, EventType, EventPayload, EventTally, BlockState, BlockCreator, BlockHeld, SlotMode, SlotMark, SlotPayload, LinkSource, LinkTarget, LinkSlot, LinkState}
+use Rattle.session.specs.declared.Field.the-variants.{Objects, Links, Kind, LinkSource}
 
 -- one place more of a field
 pub wrote-swept : (a b : List ℕ) (f : Field) (i : ℕ) → i < size f → words ≤ length b → Wrote a b (sweep (read a) f i (λ _. 0))
     → Wrote a (set b (base f + i) 0) (sweep (read a) f (i + 1) (λ _. 0))
 wrote-swept a b f i h l w = rw (sweep-more (read a) f i (λ _. 0)) at (wrote-more f i 0 w (wrote-word b f i 0 h l))
 
+-- more handles and links, more places
+pub more-places : {h l m n : ℕ} → h ≤ m → l ≤ n → (c : Class) → placesOf h l c ≤ placesOf m n c
+more-places a b (always k) = omega arith
+more-places a b perHandle = a
+more-places a b perSlot = omega arith
+more-places a b perLink = b
+
+-- the fields stand in the order of their numbers
+abbrev inOrder : ℕ → List Field → Bool
+inOrder n [] = true
+inOrder n (f ∷ fs) = both (eqb (code f) n) (inOrder (n + 1) fs)
+
+in-order : (n : ℕ) (fs : List Field) → T (inOrder n fs) → (k : ℕ) → k < length fs → code (getD fs k Objects) ≡ n + k
+in-order n [] t k m = absurd (omega arith)
+in-order n (f ∷ fs) t zero m =
+    let e : code f ≡ n = eqb→eq (code f) n (both-l (eqb (code f) n) (inOrder (n + 1) fs) t) in
+    omega arith
+in-order n (f ∷ fs) t (suc k) m =
+    let e = in-order (n + 1) fs (both-r (eqb (code f) n) (inOrder (n + 1) fs) t) k (omega arith) in
+    omega arith
+
+-- the field of a number
+abbrev fieldAt : ℕ → Field
+fieldAt k = getD fields k Objects
+
+code-at : (k : ℕ) → k < length fields → code (fieldAt k) ≡ k
+code-at k m = let e = in-order 0 fields tt k m in omega arith
+
+-- the places of the field of a number are in the table at that number
+places-at : (h l : ℕ) (fs : List Field) (k : ℕ) → k < length fs
+    → getD (placesIn h l fs) k 0 ≡ placesOf h l (class (getD fs k Objects))
+places-at h l [] k m = absurd (omega arith)
+places-at h l (f ∷ fs) zero m = refl
+places-at h l (f ∷ fs) (suc k) m = places-at h l fs k (omega arith)
+
+-- the next field begins where this one ends
+words-more : (fs : List Field) (k : ℕ) → k < length fs
+    → wordsOf (take (suc k) fs) ≡ wordsOf (take k fs) + size (getD fs k Objects)
+words-more [] k m = absurd (omega arith)
+words-more (f ∷ fs) zero m = omega arith
+words-more (f ∷ fs) (suc k) m = let e = words-more fs k (omega arith) in omega arith
+
+pub next-begins : (k start : ℕ) → k < length fields → start ≡ wordsOf (take k fields)
+    → start + getD (placesIn objectPlaces linkPlaces fields) k 0 ≡ wordsOf (take (k + 1) fields)
+next-begins k start low reached =
+    let e : k + 1 ≡ suc k = omega arith in
+    rw (places-at objectPlaces linkPlaces fields k low, e, words-more fields k low, reached) refl
+
 -- no field is cleared yet
-cleared-none : (s : Session) (a n : ℕ) → cleared s a a n ≡ s
+cleared-none : (s : Session) (h l : ℕ) → cleared s h l 0 ≡ s
 unfolding cleared
-cleared-none s a n = fun-ext (λ f. fun-ext (λ i. go f i (leb a (code f)) refl (ltb (code f) a) refl))
-  where
-    go : (f : Field) (i : ℕ) (b : Bool) → leb a (code f) ≡ b → (d : Bool) → ltb (code f) a ≡ d → _≡_ {A = ℕ} (pick (both b d) (pick (ltb i n) 0 (s f i)) (s f i)) (s f i)
-    go f i true e true q =
-        let l : a ≤ code f = leb-true a (code f) e in
-        let m : code f < a = ltb-true (code f) a q in
-        absurd (omega arith)
-    go f i true e false q = refl
-    go f i false e d q = refl
+cleared-none s h l = fun-ext (λ f. fun-ext (λ i. rw (le-ltb (code f) 0 (omega arith)) refl))
 
 -- one field more
-cleared-more : (s : Session) (a n : ℕ) (f : Field) → a ≤ code f → sweep (cleared s a (code f) n) f n (λ _. 0) ≡ cleared s a (code f + 1) n
+cleared-more : (s : Session) (h l : ℕ) (f : Field)
+    → sweep (cleared s h l (code f)) f (placesOf h l (class f)) (λ _. 0) ≡ cleared s h l (code f + 1)
 unfolding cleared sweep
-cleared-more s a n f l = fun-ext (λ g. fun-ext (λ i. go g i (eqb (code f) (code g)) refl))
+cleared-more s h l f = fun-ext (λ g. fun-ext (λ i. go g i (same f g) refl))
   where
-    go : (g : Field) (i : ℕ) (b : Bool) → eqb (code f) (code g) ≡ b
-        → _≡_ {A = ℕ} (pick b (pick (ltb i n) 0 (cleared s a (code f) n g i)) (cleared s a (code f) n g i)) (cleared s a (code f + 1) n g i)
+    go : (g : Field) (i : ℕ) (b : Bool) → same f g ≡ b
+        → _≡_ {A = ℕ} (pick b (pick (ltb i (placesOf h l (class f))) 0 (cleared s h l (code f) g i)) (cleared s h l (code f) g i))
+        (cleared s h l (code f + 1) g i)
     go g i true e =
-        let q : code f ≡ code g = eqb-true (code f) (code g) e in
-        rw (q, le-ltb (code g) (code g) (omega arith), le-leb a (code g) (omega arith), lt-ltb (code g) (code g + 1) (omega arith)) refl
-    go g i false e = ap (λ (d : Bool). pick (both (leb a (code g)) d) (pick (ltb i n) 0 (s g i)) (s g i)) (step (ltb (code g) (code f)) refl)
+        let q : f ≡ g = same-eq f g (rw e tt) in
+        rw (q, le-ltb (code g) (code g) (omega arith), lt-ltb (code g) (code g + 1) (omega arith)) refl
+    go g i false e =
+        ap (λ (d : Bool). pick d (pick (ltb i (placesOf h l (class g))) 0 (s g i)) (s g i)) (step (ltb (code g) (code f)) refl)
       where
         step : (d : Bool) → ltb (code g) (code f) ≡ d → d ≡ ltb (code g) (code f + 1)
         step true q = let h : code g < code f = ltb-true (code g) (code f) q in sym (lt-ltb (code g) (code f + 1) (omega arith))
@@ -53,17 +98,30 @@ cleared-more s a n f l = fun-ext (λ g. fun-ext (λ i. go g i (eqb (code f) (cod
             sym (le-ltb (code g) (code f + 1) (omega arith))
 
 -- no word written yet
-pub wrote-uncleared : (ws : List ℕ) (first n : ℕ) → Wrote ws ws (cleared (read ws) first first n)
-wrote-uncleared ws first n = rw (cleared-none (read ws) first n) (wrote-none ws)
+pub wrote-uncleared : (ws : List ℕ) (h l : ℕ) → Wrote ws ws (cleared (read ws) h l 0)
+wrote-uncleared ws h l = rw (cleared-none (read ws) h l) (wrote-none ws)
 
--- one field more cleared
-pub wrote-cleared : {a b c : List ℕ} (first n : ℕ) (f : Field) → first ≤ code f → Wrote a b (cleared (read a) first (code f) n)
-    → Wrote b c (sweep (read b) f n (λ _. 0)) → Wrote a c (cleared (read a) first (code f + 1) n)
-wrote-cleared {a} first n f l p q = wrote-then p (rw (p .reading, cleared-more (read a) first n f l) at q)
+-- The fields are cleared one by one: k of them are, and the next begins at a word.
+module _ (h l k start : ℕ) (fits : h ≤ objectPlaces) (fits′ : l ≤ linkPlaces) (low : k < length fields)
+    (reached : start ≡ wordsOf (take k fields)) where
+  begins : start ≡ base (fieldAt k)
+  begins = rw (code-at k low) reached
 
--- fields cleared after another write
-pub then-cleared : {a b c : List ℕ} {s : Session} (first end n : ℕ) → Wrote a b s → Wrote b c (cleared (read b) first end n) → Wrote a c (cleared s first end n)
-then-cleared first end n p q = wrote-then p (rw (p .reading) at q)
+  few : getD (placesIn h l fields) k 0 ≤ size (fieldAt k)
+  few = rw (places-at h l fields k low) (more-places fits fits′ (class (fieldAt k)))
+
+  pub clears-inside : start + getD (placesIn h l fields) k 0 ≤ words
+  clears-inside = omega (arith, few, begins, inside (fieldAt k))
+
+  pub wrote-cleared : {a b c : List ℕ} → Wrote a b (cleared (read a) h l k) → Zeroed b c start (getD (placesIn h l fields) k 0)
+      → Wrote a c (cleared (read a) h l (k + 1))
+  wrote-cleared {a} p z =
+      let q = rw (places-at h l fields k low) at (z (fieldAt k) begins few) in
+      wrote-then p (rw (p .reading, cleared-at a) at q)
+    where
+      cleared-at : (a : List ℕ)
+          → sweep (cleared (read a) h l k) (fieldAt k) (placesOf h l (class (fieldAt k))) (λ _. 0) ≡ cleared (read a) h l (k + 1)
+      cleared-at a = rw (code-at k low) at (cleared-more (read a) h l (fieldAt k))
 
 -- the counts of a tidy session fit the layout
 pub tidy-objects : (s : Session) → Tidy s → s Objects 0 ≤ mostObjects
@@ -83,33 +141,7 @@ zero-past i n x h = go (ltb i n) refl
     go false e = h (ltb-false i n e)
 
 -- a tidy session cleared where it is used is empty
-pub used-cleared : (s : Session) → Tidy s → clearedUpTo s (s Objects 0 + 1) (s Links 0 + 1) ≡ emptySession
-unfolding Tidy clearedUpTo emptySession
-used-cleared s t = fun-ext (λ f. fun-ext (λ i. go f i (zero-past i (used s f) (s f i) (t f .1 i))))
-  where
-    go : (f : Field) (i : ℕ) → _≡_ {A = ℕ} (pick (ltb i (used s f)) 0 (s f i)) 0 → clearedUpTo s (s Objects 0 + 1) (s Links 0 + 1) f i ≡ 0
-    go Objects i e = e
-    go Links i e = e
-    go Dropped i e = e
-    go Kind i e = e
-    go TemplateState i e = e
-    go TemplateCount i e = e
-    go TaskState i e = e
-    go TaskCreator i e = e
-    go TaskSlots i e = e
-    go TaskFinish i e = e
-    go TaskOutput i e = e
-    go EventState i e = e
-    go EventType i e = e
-    go EventPayload i e = e
-    go EventTally i e = e
-    go BlockState i e = e
-    go BlockCreator i e = e
-    go BlockHeld i e = e
-    go SlotMode i e = e
-    go SlotMark i e = e
-    go SlotPayload i e = e
-    go LinkSource i e = e
-    go LinkTarget i e = e
-    go LinkSlot i e = e
-    go LinkState i e = e
+pub used-cleared : (s : Session) → Tidy s → cleared s (s Objects 0 + 1) (s Links 0 + 1) (length fields) ≡ emptySession
+unfolding Tidy cleared emptySession
+used-cleared s t =
+    fun-ext (λ f. fun-ext (λ i. rw (lt-ltb (code f) (length fields) (bounded f)) (zero-past i (used s f) (s f i) (t f .1 i))))

@@ -1,11 +1,15 @@
 // The numbers of kinds, states, types, modes and marks, as they stand in a session's memory (docs/LAYOUT.md).
 
-// How many words of memory a session takes.
-pub const WORDS: usize = 40518;
-
 pub const MOST_OBJECTS: u64 = 512;
 
 pub const MOST_LINKS: u64 = 2048;
+
+// The places of handles and of links, with one for 0, which names none, and of sixteen pre-slots for each handle.
+pub const OBJECT_PLACES: usize = MOST_OBJECTS as usize + 1;
+
+pub const LINK_PLACES: usize = MOST_LINKS as usize + 1;
+
+pub const SLOT_PLACES: usize = 16 * OBJECT_PLACES;
 
 // Kinds of object. A task is OCR's EDT, a block its data block, a handle its GUID.
 pub const TEMPLATE: u64 = 1;

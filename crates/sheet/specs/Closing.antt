@@ -8,6 +8,7 @@ use lib.ListN.{length}
 use Rattle.number.specs.Number.{splice}
 use Rattle.lines.specs.Line.{line}
 use Rattle.lines.specs.LineLaws.{digits-bound, line-length}
+use Rattle.session.specs.Names.{mostObjects, mostLinks, objectPlaces, linkPlaces}
 use Rattle.session.specs.Table.{Session, read}
 use Rattle.session.specs.declared.Field.the-variants.{Objects, Links, Kind, LinkState}
 use Rattle.session.specs.TableLaws.{read-past}
@@ -42,7 +43,8 @@ unfolding closed
 closed-not memory l f = choose-no (lent memory l) _ l f
 
 module _ (memory lines : List ℕ) (used : ℕ) where
-  pub closes-not : (holds (lent memory (linesOf lines used)) → ⊥) → Closes memory lines lines used (record { refused = 1; used = used })
+  pub closes-not : (holds (lent memory (linesOf lines used)) → ⊥)
+      → Closes memory lines lines used (record { refused = 1; used = used })
   closes-not f =
       record {
         refused = sym (choose-no (lent memory (linesOf lines used)) 0 1 f);
@@ -63,7 +65,7 @@ module _ (memory lines : List ℕ) (used : ℕ) where
         short = λ _. rw (← p, ← q, ← r) short;
       }
 
-pub line-closing : (a b c : ℕ) → a ≤ 2049 → b ≤ 2049 → c < 2 ^ 64 → length (line a b c) ≤ 32
+pub line-closing : (a b c : ℕ) → a ≤ linkPlaces → b ≤ linkPlaces → c < 2 ^ 64 → length (line a b c) ≤ 32
 line-closing a b c ha hb hc =
     let x = digits-bound 3 a (omega arith) in
     let y = digits-bound 3 b (omega arith) in
@@ -78,33 +80,37 @@ count-past (suc d) m f h =
     let e : suc d + m ≡ suc (d + m) = omega arith in
     ap (λ (n : ℕ). count n f) e ∙ count-no (d + m) f (h (d + m) (omega arith)) ∙ count-past d m f h
 
-pub live-past : (ws : List ℕ) → 512 < read ws Objects 0 → count (512 + 1) (isLive (read ws)) ≡ liveTasks (read ws)
+pub live-past : (ws : List ℕ) → mostObjects < read ws Objects 0 → count (mostObjects + 1) (isLive (read ws)) ≡ liveTasks (read ws)
 unfolding liveTasks
 live-past ws h =
     let s = read ws in
-    let sum : s Objects 0 + 1 ≡ (s Objects 0 - 512) + 513 = omega arith in
-    sym (rw sum (count-past (s Objects 0 - 512) 513 (isLive s) (λ i l w. none i (w .0) l)))
+    let sum : s Objects 0 + 1 ≡ (s Objects 0 - mostObjects) + objectPlaces = omega arith in
+    sym (rw sum (count-past (s Objects 0 - mostObjects) objectPlaces (isLive s) (λ i l w. none i (w .0) l)))
   where
-    none : (i : ℕ) → read ws Kind i ≡ 2 → 513 ≤ i → ⊥
+    none : (i : ℕ) → read ws Kind i ≡ 2 → objectPlaces ≤ i → ⊥
     none i e l = omega (arith, e, read-past ws Kind i l)
 
-pub undelivered-past : (ws : List ℕ) → 2048 < read ws Links 0 → count (2048 + 1) (isUndelivered (read ws)) ≡ undeliveredLinks (read ws)
+pub undelivered-past : (ws : List ℕ) → mostLinks < read ws Links 0
+    → count (mostLinks + 1) (isUndelivered (read ws)) ≡ undeliveredLinks (read ws)
 unfolding undeliveredLinks
 undelivered-past ws h =
     let s = read ws in
-    let sum : s Links 0 + 1 ≡ (s Links 0 - 2048) + 2049 = omega arith in
-    sym (rw sum (count-past (s Links 0 - 2048) 2049 (isUndelivered s) (λ i l w. ⊎-elim (λ e. none i e l) (λ e. some i e l) w)))
+    let sum : s Links 0 + 1 ≡ (s Links 0 - mostLinks) + linkPlaces = omega arith in
+    sym
+    (rw sum
+    (count-past (s Links 0 - mostLinks) linkPlaces (isUndelivered s) (λ i l w. ⊎-elim (λ e. none i e l) (λ e. some i e l) w)))
   where
-    none : (i : ℕ) → read ws LinkState i ≡ 1 → 2049 ≤ i → ⊥
+    none : (i : ℕ) → read ws LinkState i ≡ 1 → linkPlaces ≤ i → ⊥
     none i e l = omega (arith, e, read-past ws LinkState i l)
 
-    some : (i : ℕ) → read ws LinkState i ≡ 2 → 2049 ≤ i → ⊥
+    some : (i : ℕ) → read ws LinkState i ≡ 2 → linkPlaces ≤ i → ⊥
     some i e l = omega (arith, e, read-past ws LinkState i l)
 
 pub live-here : (ws : List ℕ) (n : ℕ) → n ≡ read ws Objects 0 → count (n + 1) (isLive (read ws)) ≡ liveTasks (read ws)
 unfolding liveTasks
 live-here ws n e = rw e
 
-pub undelivered-here : (ws : List ℕ) (n : ℕ) → n ≡ read ws Links 0 → count (n + 1) (isUndelivered (read ws)) ≡ undeliveredLinks (read ws)
+pub undelivered-here : (ws : List ℕ) (n : ℕ) → n ≡ read ws Links 0
+    → count (n + 1) (isUndelivered (read ws)) ≡ undeliveredLinks (read ws)
 unfolding undeliveredLinks
 undelivered-here ws n e = rw e

@@ -46,18 +46,21 @@ pub record Goes (sheet : List ℕ) (at k : ℕ) (before after lines lines′ : L
   pub same-length : length after ≡ length before
   pub past : drop words after ≡ drop words before
   pub keeps : holds (kept (read before)) → holds (kept (read after))
-  pub goes : (steps : ℕ) → runFrom sheet (suc steps) at k (read before) (linesOf lines used) ≡ following sheet steps at (k + 1) (read after) lines′ w
+  pub goes : (steps : ℕ)
+      → runFrom sheet (suc steps) at k (read before) (linesOf lines used) ≡ following sheet steps at (k + 1) (read after) lines′ w
   pub onward : Onward at w
 
 -- So which answer it is, and its numbers, are those of the run in one step: where its place stays, it stopped.
 abbrev pub wentOf : ℕ → Run → Went
 wentOf at r = choose (r .place ≐ at) (Stopped (r .lines .used) (r .ending)) (On (r .place) (r .lines .used))
 
-pub went-told : (sheet : List ℕ) (at k : ℕ) (before after lines lines′ : List ℕ) (used : ℕ) (w : Went) → Goes sheet at k before after lines lines′ used w
+pub went-told : (sheet : List ℕ) (at k : ℕ) (before after lines lines′ : List ℕ) (used : ℕ) (w : Went)
+    → Goes sheet at k before after lines lines′ used w
     → w ≡ wentOf at (runFrom sheet 1 at k (read before) (linesOf lines used))
 unfolding following Onward runFrom
 went-told sheet at k before after lines lines′ used (On next used′) g =
-    sym (ap (wentOf at) (g .goes 0) ∙ choose-no (next ≐ at) (Stopped used′ 0) (On next used′) (λ e. let l = g .onward in omega arith))
+    sym (ap (wentOf at) (g .goes 0)
+    ∙ choose-no (next ≐ at) (Stopped used′ 0) (On next used′) (λ e. let l = g .onward in omega arith))
 went-told sheet at k before after lines lines′ used (Stopped used′ n) g =
     sym (ap (wentOf at) (g .goes 0) ∙ choose-yes (at ≐ at) (Stopped used′ n) (On at used′) refl)
 
@@ -75,29 +78,47 @@ module _ (sheet : List ℕ) (at k : ℕ) (ws lines : List ℕ) (used : ℕ) (bef
   pub goes-full : (holds (hasRoom (linesOf lines used)) → ⊥) → Goes sheet at k ws ws lines lines used (Stopped used 1)
   unfolding following Onward
   goes-full unmet =
-      record { same-length = refl; past = refl; keeps = λ h. h; goes = λ n. run-full sheet at k (read ws) (linesOf lines used) n before unmet; onward = tt }
+      record {
+        same-length = refl;
+        past = refl;
+        keeps = λ h. h;
+        goes = λ n. run-full sheet at k (read ws) (linesOf lines used) n before unmet;
+        onward = tt;
+      }
 
   module _ (room : holds (hasRoom (linesOf lines used))) (lines′ : List ℕ) (used′ : ℕ) where
     -- the sheet is ended by this line
     stopped : (n : ℕ) → linesOf lines′ used′ ≡ withLine (linesOf lines used) (k + 1) n 0
-        → ((steps : ℕ) → runFrom sheet (suc steps) at k (read ws) (linesOf lines used) ≡ endedBy (read ws) (linesOf lines used) at (k + 1) n)
+        → ((steps : ℕ)
+        → runFrom sheet (suc steps) at k (read ws) (linesOf lines used) ≡ endedBy (read ws) (linesOf lines used) at (k + 1) n)
         → Goes sheet at k ws ws lines lines′ used (Stopped used′ n)
     unfolding following Onward endedBy
     stopped n e f =
-        record { same-length = refl; past = refl; keeps = λ h. h; goes = λ m. f m ∙ ap (λ (l : Lines). ended (read ws) l at (k + 1) n) (sym e); onward = tt }
+        record {
+          same-length = refl;
+          past = refl;
+          keeps = λ h. h;
+          goes = λ m. f m ∙ ap (λ (l : Lines). ended (read ws) l at (k + 1) n) (sym e);
+          onward = tt;
+        }
 
     pub goes-unsound : (holds (sound (read ws)) → ⊥) → linesOf lines′ used′ ≡ withLine (linesOf lines used) (k + 1) 2 0
         → Goes sheet at k ws ws lines lines′ used (Stopped used′ 2)
     goes-unsound unmet e = stopped 2 e (λ n. run-unsound sheet at k (read ws) (linesOf lines used) n before room unmet)
 
     module _ (is : holds (sound (read ws))) where
-      pub goes-refused : (recordAt sheet at .refused ≡ 0 → ⊥) → linesOf lines′ used′ ≡ withLine (linesOf lines used) (k + 1) (recordAt sheet at .refused) 0
+      pub goes-refused : (recordAt sheet at .refused ≡ 0 → ⊥)
+          → linesOf lines′ used′ ≡ withLine (linesOf lines used) (k + 1) (recordAt sheet at .refused) 0
           → Goes sheet at k ws ws lines lines′ used (Stopped used′ (recordAt sheet at .refused))
-      goes-refused unmet e = stopped (recordAt sheet at .refused) e (λ n. run-refused sheet at k (read ws) (linesOf lines used) n before room is unmet)
+      goes-refused unmet e =
+          stopped (recordAt sheet at .refused) e
+          (λ n. run-refused sheet at k (read ws) (linesOf lines used) n before room is unmet)
 
       pub goes-on : (after : List ℕ) → recordAt sheet at .refused ≡ 0
           → Wrote ws after (step (read ws) (recordAt sheet at .operation) .leaves)
-          → linesOf lines′ used′ ≡ withLine (linesOf lines used) (k + 1) (step (read ws) (recordAt sheet at .operation) .refused) (step (read ws) (recordAt sheet at .operation) .made)
+          → linesOf lines′ used′
+          ≡ withLine (linesOf lines used) (k + 1) (step (read ws) (recordAt sheet at .operation) .refused)
+          (step (read ws) (recordAt sheet at .operation) .made)
           → Goes sheet at k ws after lines lines′ used (On (recordAt sheet at .next) used′)
       unfolding following Onward
       goes-on after z w e =
@@ -115,38 +136,55 @@ abbrev pub runOf : List ℕ → ℕ → ℕ → List ℕ → List ℕ → ℕ �
 runOf sheet first done before lines used = runFrom sheet (length sheet) first done (read before) (linesOf lines used)
 
 -- Where a run from a first record, after so many, stands before the record at a place.
-pub record Running (sheet : List ℕ) (first done : ℕ) (sure : Bool) (before lines : List ℕ) (used : ℕ) (after lines′ : List ℕ) (at k used′ : ℕ) : Type 0 where
+pub record Running (sheet : List ℕ) (first done : ℕ) (sure : Bool) (before lines : List ℕ) (used : ℕ) (after lines′ : List ℕ)
+    (at k used′ : ℕ) : Type 0 where
   pub same-length : length after ≡ length before
   pub past : drop words after ≡ drop words before
   pub keeps : sure ≡ true → holds (kept (read after))
   pub count : k ≤ at
   pub runs : runOf sheet first done before lines used ≡ runFrom sheet (length sheet) at k (read after) (linesOf lines′ used′)
 
-pub running-first : (sheet : List ℕ) (first done : ℕ) (sure : Bool) (ws lines : List ℕ) (used : ℕ) → (sure ≡ true → holds (kept (read ws))) → done ≤ first
+pub running-first : (sheet : List ℕ) (first done : ℕ) (sure : Bool) (ws lines : List ℕ) (used : ℕ)
+    → (sure ≡ true → holds (kept (read ws))) → done ≤ first
     → Running sheet first done sure ws lines used ws lines first done used
-running-first sheet first done sure ws lines used h c = record { same-length = refl; past = refl; keeps = h; count = c; runs = refl }
+running-first sheet first done sure ws lines used h c =
+    record { same-length = refl; past = refl; keeps = h; count = c; runs = refl }
 
-pub ends-as : (before after lines : List ℕ) (e : Ended) (r : Run) → length after ≡ length before → drop words after ≡ drop words before
+pub ends-as : (before after lines : List ℕ) (e : Ended) (r : Run) → length after ≡ length before
+    → drop words after ≡ drop words before
     → r ≡ ended (read after) (linesOf lines (e .used)) (e .place) (e .number) (e .ending)
     → Ends before after lines e r
 ends-as before after lines e r n p q =
-    rw q (record { session = record { same-length = n; reading = refl; past = p }; bytes = refl; used = refl; place = refl; number = refl; ending = refl })
+    rw q (record {
+      session = record { same-length = n; reading = refl; past = p };
+      bytes = refl;
+      used = refl;
+      place = refl;
+      number = refl;
+      ending = refl;
+    })
 
-module _ (sheet : List ℕ) (first done : ℕ) (sure : Bool) (before lines : List ℕ) (used : ℕ) (now-memory now-lines : List ℕ) (at k now-used : ℕ)
+module _ (sheet : List ℕ) (first done : ℕ) (sure : Bool) (before lines : List ℕ) (used : ℕ) (now-memory now-lines : List ℕ)
+    (at k now-used : ℕ)
     (g : Running sheet first done sure before lines used now-memory now-lines at k now-used) where
   pub running-end : length sheet ≤ at
-      → Ends before now-memory now-lines (record { used = now-used; place = at; number = k; ending = 0 }) (runOf sheet first done before lines used)
-  running-end h = ends-as _ _ _ _ _ (g .same-length) (g .past) (g .runs ∙ run-end sheet at k (read now-memory) (linesOf now-lines now-used) (length sheet) h)
+      → Ends before now-memory now-lines (record { used = now-used; place = at; number = k; ending = 0 })
+      (runOf sheet first done before lines used)
+  running-end h =
+      ends-as _ _ _ _ _ (g .same-length) (g .past)
+      (g .runs ∙ run-end sheet at k (read now-memory) (linesOf now-lines now-used) (length sheet) h)
 
   module _ (inside : at < length sheet) (after lines′ : List ℕ) (used′ : ℕ) where
     -- the run from here is what follows the record
     follows : (w : Went) → Goes sheet at k now-memory after now-lines lines′ now-used w
         → runOf sheet first done before lines used ≡ following sheet (length sheet - 1) at (k + 1) (read after) lines′ w
     follows w o =
-        g .runs ∙ steps-enough sheet (length sheet) (suc (length sheet - 1)) at k _ _ (omega arith) (omega arith) ∙ o .goes (length sheet - 1)
+        g .runs ∙ steps-enough sheet (length sheet) (suc (length sheet - 1)) at k _ _ (omega arith) (omega arith)
+        ∙ o .goes (length sheet - 1)
 
     pub running-stop : (n : ℕ) → Goes sheet at k now-memory after now-lines lines′ now-used (Stopped used′ n)
-        → Ends before after lines′ (record { used = used′; place = at; number = k + 1; ending = n }) (runOf sheet first done before lines used)
+        → Ends before after lines′ (record { used = used′; place = at; number = k + 1; ending = n })
+        (runOf sheet first done before lines used)
     unfolding following
     running-stop n o = ends-as _ _ _ _ _ (o .same-length ∙ g .same-length) (o .past ∙ g .past) (follows (Stopped used′ n) o)
 
@@ -160,5 +198,6 @@ module _ (sheet : List ℕ) (first done : ℕ) (sure : Bool) (before lines : Lis
           past = o .past ∙ g .past;
           keeps = λ h. o .keeps (g .keeps h);
           count = omega (arith, g .count, l);
-          runs = follows (On next used′) o ∙ steps-enough sheet (length sheet - 1) (length sheet) next (k + 1) _ _ (omega arith) (omega arith);
+          runs = follows (On next used′) o
+              ∙ steps-enough sheet (length sheet - 1) (length sheet) next (k + 1) _ _ (omega arith) (omega arith);
         }

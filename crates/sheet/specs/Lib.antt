@@ -2,13 +2,13 @@ pub mod Run
 pub mod RunLaws
 pub mod Replies
 pub mod Going
-pub mod Whole
+pub mod WholeSheet
 pub mod Closing
 pub mod Settled
 pub mod NeverFull
 pub mod Printed
 pub mod PrintLaws
-pub mod Parts
+pub mod SheetParts
 pub mod PartOf
 pub mod PartLaws
 pub mod Printing

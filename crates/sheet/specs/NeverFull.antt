@@ -14,32 +14,27 @@ use Rattle.number.specs.Splice.{splice-length}
 use Rattle.lines.specs.Line.{line}
 use Rattle.lines.specs.LineLaws.{digits-bound, line-length}
 use Rattle.session.specs.Table.{Session}
-use Rattle.rules.specs.Arity.{isCode}
+use Rattle.rules.specs.Arity.{fieldCount, fields-some}
 use Rattle.rules.specs.Checks.{Check, refusal}
-use Rattle.rules.specs.Formula.{holds, test, Formula._≐_, Formula._≼_, Formula._then_, Formula.each}
-use Rattle.rules.specs.FormulaLaws.{Case, decide, passed, choose-yes, choose-no, Case.it-does, Case.it-does-not}
+use Rattle.rules.specs.Formula.{holds, Formula._≐_, Formula._≼_}
+use Rattle.rules.specs.FormulaLaws.{Case, decide, choose-yes, choose-no, Case.it-does, Case.it-does-not}
 use Rattle.rules.specs.Sound.{sound}
 use Rattle.rules.specs.Step.{step}
-use Rattle.record.specs.Reading.{place, fieldCount, codeAt, firstField, countAt, recordChecks, recordAt}
+use Rattle.record.specs.Reading.{place, codeAt, firstField, countAt, recordChecks, recordAt}
 use Rattle.record.specs.Refusals.{number-none, answered-number}
 use Rattle.record.specs.Fields.{AllRead, place-none}
-use Rattle.record.specs.Cases.{accepted}
+use Rattle.record.specs.RecordCases.{accepted}
 use Rattle.record.specs.Laws.{record-forward, record-refusals}
 use Rattle.record.specs.Sheet.{headRefusal, headChecks, firstRecord}
 use Rattle.sheet.specs.Run.{Lines, hasRoom, withLine, Run, ended, endedBy, runFrom, runSheet}
 use Rattle.sheet.specs.RunLaws.{run-end, run-unsound, run-refused, run-on, sheet-unsound, sheet-refused, sheet-runs, below}
 use Rattle.sheet.specs.Replies.{reply-small, reply-nothing}
-use Rattle.sheet.specs.Whole.{head-small}
+use Rattle.sheet.specs.WholeSheet.{head-small}
 
 -- A run that did not end by 1, and has room for the last line.
 pub record Closable (r : Run) : Type 0 where
   pub not-full : r .ending ≡ 1 → ⊥
   pub room : holds (hasRoom (r .lines))
-
--- every operation has a field
-fields-some : (code : ℕ) → holds (isCode code) → 1 ≤ fieldCount code
-unfolding test
-fields-some code h = passed (each 13 (λ c. 1 ≼ c then 1 ≼ fieldCount c)) refl code (omega arith) (h .0)
 
 fields-take : (bytes : List ℕ) (first n : ℕ) → AllRead bytes first n → first + n ≤ place bytes first n
 fields-take bytes first zero all = let z = place-none bytes first in omega arith
@@ -77,7 +72,8 @@ refusal-other n (c ∷ cs) p u e = go (decide (c .rule)) (refusal-other n cs p (
 pub record-not-full : (sheet : List ℕ) (at : ℕ) → recordAt sheet at .refused ≡ 1 → ⊥
 unfolding recordAt
 record-not-full sheet at e =
-    refusal-other 1 (recordChecks sheet at) (lit< tt) (λ x. omega arith, (λ x. omega arith, (λ x. omega arith, (λ x. omega arith, (λ x. omega arith, tt)))))
+    refusal-other 1 (recordChecks sheet at) (lit< tt)
+    (λ x. omega arith, (λ x. omega arith, (λ x. omega arith, (λ x. omega arith, (λ x. omega arith, tt)))))
     (sym (answered-number (refusal (recordChecks sheet at)) _ _) ∙ e)
 
 pub head-not-full : (sheet : List ℕ) → headRefusal sheet ≡ 1 → ⊥
@@ -105,7 +101,8 @@ module _ (l : Lines) (a b c : ℕ) (room : holds (hasRoom l)) (ha : a < 100000) 
   line-kept = splice-length (l .bytes) (l .used) (line a b c) (omega (arith, line-small))
 
 -- the line that ends a sheet leaves room for the last one
-closable-by : (s : Session) (l : Lines) (at k n : ℕ) → l .used + 64 ≤ length (l .bytes) → k < 100000 → n < 100 → (n ≡ 1 → ⊥) → Closable (endedBy s l at k n)
+closable-by : (s : Session) (l : Lines) (at k n : ℕ) → l .used + 64 ≤ length (l .bytes) → k < 100000 → n < 100 → (n ≡ 1 → ⊥)
+    → Closable (endedBy s l at k n)
 unfolding endedBy
 closable-by s l at k n h hk hn f =
     let u = line-used l k n 0 (omega arith) hk hn (lit< tt) in
@@ -120,14 +117,21 @@ record Spare (sheet : List ℕ) (at k : ℕ) (l : Lines) : Type 0 where
   pub bytes : 2 * l .used + 11 * (length sheet - at) + 128 ≤ 2 * length (l .bytes)
 
 -- and it is there before the next one
-spare-on : (sheet : List ℕ) (at k : ℕ) (s : Session) (l : Lines) → Spare sheet at k l → at < length sheet → holds (sound s) → recordAt sheet at .refused ≡ 0
-    → Spare sheet (recordAt sheet at .next) (k + 1) (withLine l (k + 1) (step s (recordAt sheet at .operation) .refused) (step s (recordAt sheet at .operation) .made))
+spare-on : (sheet : List ℕ) (at k : ℕ) (s : Session) (l : Lines) → Spare sheet at k l → at < length sheet → holds (sound s)
+    → recordAt sheet at .refused ≡ 0
+    → Spare sheet (recordAt sheet at .next) (k + 1)
+    (withLine l (k + 1) (step s (recordAt sheet at .operation) .refused) (step s (recordAt sheet at .operation) .made))
 spare-on sheet at k s l g b is z =
     let op = recordAt sheet at .operation in
     let takes = record-takes sheet at z in
     let e = line-kept l (k + 1) (step s op .refused) (step s op .made) room low (small .0) (small .1) in
     let inside = record-forward sheet at z .inside in
-    record { small = g .small; count = omega (arith, g .count, takes); inside = inside; bytes = go (decide (countAt sheet at ≐ 1)) e inside }
+    record {
+      small = g .small;
+      count = omega (arith, g .count, takes);
+      inside = inside;
+      bytes = go (decide (countAt sheet at ≐ 1)) e inside;
+    }
   where
     room : holds (hasRoom l)
     room = omega (arith, g .bytes)
@@ -146,12 +150,14 @@ spare-on sheet at k s l g b is z =
     go (it-does one) e inside =
         let takes = record-takes sheet at z in
         let none = reply-nothing s (recordAt sheet at .operation) (ap fieldCount (record-code sheet at z) ∙ one) in
-        let u = line-less l (k + 1) (step s (recordAt sheet at .operation) .refused) (step s (recordAt sheet at .operation) .made) room low (small .0) (small .1) none in
+        let u = line-less l (k + 1) (step s (recordAt sheet at .operation) .refused)
+        (step s (recordAt sheet at .operation) .made) room low (small .0) (small .1) none in
         omega (arith, g .bytes)
     go (it-does-not more) e inside =
         let takes = record-takes sheet at z in
         let some = fields-some (codeAt sheet at) (accepted sheet at z .known) in
-        let u = line-used l (k + 1) (step s (recordAt sheet at .operation) .refused) (step s (recordAt sheet at .operation) .made) room low (small .0) (small .1) in
+        let u = line-used l (k + 1) (step s (recordAt sheet at .operation) .refused)
+        (step s (recordAt sheet at .operation) .made) room low (small .0) (small .1) in
         omega (arith, g .bytes)
 
 -- the case of no steps
@@ -164,14 +170,17 @@ abbrev Again : List ℕ → ℕ → Type 0
 Again sheet n = (at k : ℕ) (s : Session) (l : Lines) → Spare sheet at k l → Closable (runFrom sheet n at k s l)
 
 run-closable : (sheet : List ℕ) (n : ℕ) → Again sheet n
-run-closable sheet zero at k s l g = rw (run-none sheet at k s l) (record { not-full = λ e. omega arith; room = omega (arith, g .bytes) })
+run-closable sheet zero at k s l g =
+    rw (run-none sheet at k s l) (record { not-full = λ e. omega arith; room = omega (arith, g .bytes) })
 run-closable sheet (suc n) at k s l g = ends (decide (length sheet ≼ at)) (run-closable sheet n)
   where
-    reads : at < length sheet → holds (hasRoom l) → holds (sound s) → Case (recordAt sheet at .refused ≐ 0) → Again sheet n → Closable (runFrom sheet (suc n) at k s l)
+    reads : at < length sheet → holds (hasRoom l) → holds (sound s) → Case (recordAt sheet at .refused ≐ 0) → Again sheet n
+        → Closable (runFrom sheet (suc n) at k s l)
     reads b o i (it-does-not f) again =
         let m = record-refusals sheet at in
         rw (run-refused sheet at k s l n b o i f)
-        (closable-by s l at (k + 1) (recordAt sheet at .refused) (omega (arith, g .bytes)) (omega (arith, g .small, g .count)) (omega arith) (record-not-full sheet at))
+        (closable-by s l at (k + 1) (recordAt sheet at .refused) (omega (arith, g .bytes)) (omega (arith, g .small, g .count))
+        (omega arith) (record-not-full sheet at))
     reads b o i (it-does z) again = rw (run-on sheet at k s l n b o i z) (again _ _ _ _ (spare-on sheet at k s l g b i z))
 
     sounds : at < length sheet → holds (hasRoom l) → Case (sound s) → Again sheet n → Closable (runFrom sheet (suc n) at k s l)
@@ -186,12 +195,14 @@ run-closable sheet (suc n) at k s l g = ends (decide (length sheet ≼ at)) (run
     ends (it-does-not f) again = sounds (below sheet at f) (omega (arith, g .bytes)) (decide (sound s)) again
 
 -- it is there before the first record
-first-spare : (sheet : List ℕ) (l : Lines) → length sheet < 100000 → 2 * l .used + 11 * length sheet + 128 ≤ 2 * length (l .bytes) → headRefusal sheet ≡ 0
+first-spare : (sheet : List ℕ) (l : Lines) → length sheet < 100000 → 2 * l .used + 11 * length sheet + 128 ≤ 2 * length (l .bytes)
+    → headRefusal sheet ≡ 0
     → Spare sheet (firstRecord sheet) 0 l
 first-spare sheet l small h z = record { small = small; count = omega arith; inside = head-inside sheet z; bytes = omega arith }
 
 -- The theorem, for any session: 11 bytes for two bytes of the sheet and 64 more are enough.
-pub never-full : (sheet : List ℕ) (s : Session) (l : Lines) → length sheet < 100000 → 2 * l .used + 11 * length sheet + 128 ≤ 2 * length (l .bytes)
+pub never-full : (sheet : List ℕ) (s : Session) (l : Lines) → length sheet < 100000
+    → 2 * l .used + 11 * length sheet + 128 ≤ 2 * length (l .bytes)
     → Closable (runSheet sheet s l)
 never-full sheet s l small h = sounds (decide (sound s))
   where
@@ -201,11 +212,13 @@ never-full sheet s l small h = sounds (decide (sound s))
     heads : holds (sound s) → Case (headRefusal sheet ≐ 0) → Closable (runSheet sheet s l)
     heads i (it-does-not f) =
         let m = head-small sheet in
-        rw (sheet-refused sheet s l room i f) (closable-by s l 0 0 (headRefusal sheet) (omega arith) (lit< tt) (omega arith) (head-not-full sheet))
+        rw (sheet-refused sheet s l room i f)
+        (closable-by s l 0 0 (headRefusal sheet) (omega arith) (lit< tt) (omega arith) (head-not-full sheet))
     heads i (it-does z) =
         rw (sheet-runs sheet s l room i z)
         (run-closable sheet (length sheet) (firstRecord sheet) 0 s l (first-spare sheet l small h z))
 
     sounds : Case (sound s) → Closable (runSheet sheet s l)
-    sounds (it-does-not f) = rw (sheet-unsound sheet s l room f) (closable-by s l 0 0 2 (omega arith) (lit< tt) (lit< tt) (λ e. omega arith))
+    sounds (it-does-not f) =
+        rw (sheet-unsound sheet s l room f) (closable-by s l 0 0 2 (omega arith) (lit< tt) (lit< tt) (λ e. omega arith))
     sounds (it-does i) = heads i (decide (headRefusal sheet ≐ 0))

@@ -20,7 +20,7 @@ use Rattle.sheet.specs.Going.{linesOf, lent, Ends}
 use Rattle.sheet.specs.Closing.{withLast, Closes, closed-room, closed-not}
 use Rattle.sheet.specs.Printed.{Printed, prints, after, closing, printAt, recordsBefore, printNext}
 use Rattle.sheet.specs.PrintLaws.{print-behind}
-use Rattle.sheet.specs.Parts.{text, FirstPart, place-part, rest-full, rest-none}
+use Rattle.sheet.specs.SheetParts.{text, FirstPart, place-part, rest-full, rest-none}
 use Rattle.sheet.specs.PartOf.{PartRun, partRun, lastPart, goingOn, partFrom, partsLeft, Tells, TellsLast, PartOf, Parted}
 
 -- records before a place
@@ -93,7 +93,8 @@ after-closing x p = ap (λ (t : List ℕ). prints t (p .session)) (sym (append-a
 
 module _ (sheet : List ℕ) where
   -- the last line, as a part
-  last-follows : (s : Session) (l : Lines) (most : ℕ) → l .used ≤ length (l .bytes) → ((holds (hasRoom l) → ⊥) → 1 ≤ most) → Short (lastPart s l)
+  last-follows : (s : Session) (l : Lines) (most : ℕ) → l .used ≤ length (l .bytes) → ((holds (hasRoom l) → ⊥) → 1 ≤ most)
+      → Short (lastPart s l)
       → Follows sheet (prints (lastLine s) s) s l most (lastPart s l)
   unfolding printNext partsLeft
   last-follows s l most h some short = go (decide (hasRoom l))
@@ -104,7 +105,8 @@ module _ (sheet : List ℕ) where
           let n : length (lastLine s) ≤ lineRoom = (rw e at short) refl in
           let w : l .used + length (lastLine s) ≤ length (l .bytes) = omega (arith, room) in
           rw e (record {
-            printed = ap (λ (x : List ℕ). prints (x ++ []) s) (splice-to (l .bytes) (l .used) (lastLine s) w) ∙ rw append-nil refl;
+            printed =
+                ap (λ (x : List ℕ). prints (x ++ []) s) (splice-to (l .bytes) (l .used) (lastLine s) w) ∙ rw append-nil refl;
             fits = omega (arith, splice-length (l .bytes) (l .used) (lastLine s) w);
             keeps = λ x. x;
             further = omega arith;
@@ -112,7 +114,8 @@ module _ (sheet : List ℕ) where
       go (it-does-not f) = rw (last-full s l f) (record { printed = refl; fits = h; keeps = λ x. x; further = some f })
 
   -- a run, as a part
-  going-follows : (at : ℕ) (p : Printed) (s : Session) (l : Lines) (r : Run) (most : ℕ) → length sheet - at + 1 ≤ most → holds (hasRoom l)
+  going-follows : (at : ℕ) (p : Printed) (s : Session) (l : Lines) (r : Run) (most : ℕ) → length sheet - at + 1 ≤ most
+      → holds (hasRoom l)
       → FirstPart sheet at p s l r → Short (goingOn r)
       → Follows sheet (closing p) s l most (goingOn r)
   unfolding printNext partsLeft
@@ -122,8 +125,13 @@ module _ (sheet : List ℕ) where
       go (it-does e) =
           let h = x .halted e in
           rw (going-full r e) (record {
-            printed = rw (before-few (r .place) (r .number - 1) (h .count), print-behind sheet (r .number - 1) (r .session) (r .place) (λ z. omega (arith, h .further room)))
-                (after-closing (text (r .lines)) _ ∙ ap closing (sym (rest-full sheet r e) ∙ x .same) ∙ sym (after-closing (text l) p));
+            printed =
+                rw (
+                  before-few (r .place) (r .number - 1) (h .count),
+                  print-behind sheet (r .number - 1) (r .session) (r .place) (λ z. omega (arith, h .further room)),
+                )
+                (after-closing (text (r .lines)) _ ∙ ap closing (sym (rest-full sheet r e) ∙ x .same)
+                ∙ sym (after-closing (text l) p));
             fits = x .fits (omega (arith, room));
             keeps = x .keeps;
             further = omega (arith, h .further room, h .inside);
@@ -138,7 +146,8 @@ module _ (sheet : List ℕ) where
             further = y .further;
           })
 
-  part-follows : (from : Next) (s : Session) (l : Lines) → length sheet < 2 ^ 64 → holds (hasRoom l) → LastFits from (partFrom sheet from s l)
+  part-follows : (from : Next) (s : Session) (l : Lines) → length sheet < 2 ^ 64 → holds (hasRoom l)
+      → LastFits from (partFrom sheet from s l)
       → Follows sheet (printNext sheet from s) s l (partsLeft sheet from - 1) (partFrom sheet from s l)
   unfolding partFrom printNext partsLeft
   part-follows (At at k) s l small room short =
@@ -149,7 +158,8 @@ module _ (sheet : List ℕ) where
       record { printed = refl; fits = omega (arith, room); keeps = λ x. x; further = omega arith }
 
 -- The code's part, once memories and answer are those of `partFrom`.
-part-told : (sheet : List ℕ) (from : Next) (before after′ lines lines′ : List ℕ) (p : Part) → length sheet < 2 ^ 64 → lineRoom ≤ length lines
+part-told : (sheet : List ℕ) (from : Next) (before after′ lines lines′ : List ℕ) (p : Part) → length sheet < 2 ^ 64
+    → lineRoom ≤ length lines
     → LastFits from (partFrom sheet from (read before) (linesOf lines 0))
     → Wrote before after′ (partFrom sheet from (read before) (linesOf lines 0) .session)
     → Tells lines′ p (partFrom sheet from (read before) (linesOf lines 0))
@@ -166,14 +176,19 @@ part-told sheet from before after′ lines lines′ p small room short w x =
     }
 
 -- the last line, as the code tells it
-module _ (memory lines lines′ : List ℕ) (used : ℕ) (c : Closed) (long : words ≤ length memory) (x : Closes memory lines lines′ used c) where
+module _ (memory lines lines′ : List ℕ) (used : ℕ) (c : Closed) (long : words ≤ length memory)
+    (x : Closes memory lines lines′ used c) where
   abbrev l : Lines
   l = linesOf lines used
 
-  pub last-waits : (c .refused ≡ 0 → ⊥) → TellsLast memory lines′ (record { refused = 0; used = used; next = LastLine }) (lastPart (read memory) l)
+  pub last-waits : (c .refused ≡ 0 → ⊥)
+      → TellsLast memory lines′ (record { refused = 0; used = used; next = LastLine }) (lastPart (read memory) l)
   last-waits f =
       rw (last-full (read memory) l none)
-      (record { tells = record { refused = refl; bytes = ap (λ (y : Lines). y .bytes) same; used = refl; next = refl }; short = λ e. absurd (never e) })
+      (record {
+        tells = record { refused = refl; bytes = ap (λ (y : Lines). y .bytes) same; used = refl; next = refl };
+        short = λ e. absurd (never e);
+      })
     where
       none : holds (hasRoom l) → ⊥
       none room = f (x .refused ∙ choose-yes (lent memory l) 0 1 (long, room))
@@ -184,14 +199,24 @@ module _ (memory lines lines′ : List ℕ) (used : ℕ) (c : Closed) (long : wo
       never : LastLine ≡ Nothing → ⊥
       never e = let z : _≡_ {A = ℕ} 0 1 = cc in omega arith
 
-  pub last-told : c .refused ≡ 0 → TellsLast memory lines′ (record { refused = 0; used = c .used; next = Nothing }) (lastPart (read memory) l)
+  pub last-told : c .refused ≡ 0
+      → TellsLast memory lines′ (record { refused = 0; used = c .used; next = Nothing }) (lastPart (read memory) l)
   last-told z = go (decide (hasRoom l))
     where
-      go : Case (hasRoom l) → TellsLast memory lines′ (record { refused = 0; used = c .used; next = Nothing }) (lastPart (read memory) l)
+      go : Case (hasRoom l)
+          → TellsLast memory lines′ (record { refused = 0; used = c .used; next = Nothing }) (lastPart (read memory) l)
       go (it-does room) =
           let same = x .written ∙ closed-room memory l (long, room) in
           rw (last-room (read memory) l room)
-          (record { tells = record { refused = refl; bytes = ap (λ (y : Lines). y .bytes) same; used = ap (λ (y : Lines). y .used) same; next = refl }; short = λ _. x .short z })
+          (record {
+            tells = record {
+              refused = refl;
+              bytes = ap (λ (y : Lines). y .bytes) same;
+              used = ap (λ (y : Lines). y .used) same;
+              next = refl;
+            };
+            short = λ _. x .short z;
+          })
       go (it-does-not f) =
           let e = x .refused ∙ choose-no (lent memory l) 0 1 (λ h. f (h .1)) in
           absurd (omega (arith, e, z))
@@ -204,12 +229,14 @@ module _ (memory lines : List ℕ) (e : Ended) where
   pub going-told : e .ending ≡ 1
       → TellsLast memory lines (record { refused = 0; used = e .used; next = At (e .place) (e .number - 1) }) (goingOn ran)
   going-told q =
-      rw (going-full ran q) (record { tells = record { refused = refl; bytes = refl; used = refl; next = refl }; short = λ y. absurd (never y) })
+      rw (going-full ran q)
+      (record { tells = record { refused = refl; bytes = refl; used = refl; next = refl }; short = λ y. absurd (never y) })
     where
       never : At (e .place) (e .number - 1) ≡ Nothing → ⊥
       never y = let z : _≡_ {A = ℕ} 0 1 = cc in omega arith
 
-  pub going-last : (lines′ : List ℕ) (p : Part) → (e .ending ≡ 1 → ⊥) → TellsLast memory lines′ p (lastPart (read memory) (linesOf lines (e .used)))
+  pub going-last : (lines′ : List ℕ) (p : Part) → (e .ending ≡ 1 → ⊥)
+      → TellsLast memory lines′ p (lastPart (read memory) (linesOf lines (e .used)))
       → TellsLast memory lines′ p (goingOn ran)
   going-last lines′ p f x = rw (going-closes ran f) x
 
@@ -220,7 +247,8 @@ module _ (sheet before lines : List ℕ) (small : length sheet < 2 ^ 64) (room :
     run-is : (r : Run) → Ends before middle lines₁ e r → ran middle lines₁ e ≡ r
     run-is r x = rw (x .session .reading, x .bytes, x .used, x .place, x .number, x .ending) refl
 
-    module _ (at k done : ℕ) (few : done ≡ recordsBefore at k) (x : Ends before middle lines₁ e (runAt sheet at done (read before) (linesOf lines 0))) where
+    module _ (at k done : ℕ) (few : done ≡ recordsBefore at k)
+        (x : Ends before middle lines₁ e (runAt sheet at done (read before) (linesOf lines 0))) where
       abbrev r : Run
       r = runAt sheet at (recordsBefore at k) (read before) (linesOf lines 0)
 
@@ -257,7 +285,8 @@ module _ (sheet before lines : List ℕ) (small : length sheet < 2 ^ 64) (room :
 
 -- Check 1.
 module _ (sheet : List ℕ) (from : Next) (before lines : List ℕ) where
-  pub parted-not : (holds (lent before (linesOf lines 0)) → ⊥) → Parted sheet from before before lines lines (record { refused = 1; used = 0; next = from })
+  pub parted-not : (holds (lent before (linesOf lines 0)) → ⊥)
+      → Parted sheet from before before lines lines (record { refused = 1; used = 0; next = from })
   unfolding Parted
   parted-not f = rw (fails (lent before (linesOf lines 0)) f) (refl, refl, refl)
 

@@ -33,10 +33,12 @@ module _ (sheet : List ℕ) (at k : ℕ) (s : Session) where
 
     module _ (is : holds (sound s)) where
       -- a record that is refused as it is read
-      pub print-refused : (recordAt sheet at .refused ≡ 0 → ⊥) → printFrom sheet (suc n) at k s ≡ prints (line (k + 1) (recordAt sheet at .refused) 0) s
+      pub print-refused : (recordAt sheet at .refused ≡ 0 → ⊥)
+          → printFrom sheet (suc n) at k s ≡ prints (line (k + 1) (recordAt sheet at .refused) 0) s
       unfolding printFrom
       print-refused unmet =
-          choose-no (length sheet ≼ at) _ _ begun ∙ choose-no (not (sound s)) _ _ (λ f. f is) ∙ choose-yes (not (recordAt sheet at .refused ≐ 0)) _ _ unmet
+          choose-no (length sheet ≼ at) _ _ begun ∙ choose-no (not (sound s)) _ _ (λ f. f is)
+          ∙ choose-yes (not (recordAt sheet at .refused ≐ 0)) _ _ unmet
 
       -- one more record
       pub print-on : recordAt sheet at .refused ≡ 0
@@ -58,15 +60,18 @@ Again sheet n m = (at k : ℕ) (s : Session) → length sheet ≤ n + at → len
 -- Each record takes a byte at least, so that the sheet's length is steps enough.
 pub prints-enough : (sheet : List ℕ) (n m : ℕ) → Again sheet n m
 prints-enough sheet zero m at k s hn hm = print-end sheet at k s zero (omega arith) ∙ sym (print-end sheet at k s m (omega arith))
-prints-enough sheet (suc n) zero at k s hn hm = print-end sheet at k s (suc n) (omega arith) ∙ sym (print-end sheet at k s zero (omega arith))
+prints-enough sheet (suc n) zero at k s hn hm =
+    print-end sheet at k s (suc n) (omega arith) ∙ sym (print-end sheet at k s zero (omega arith))
 prints-enough sheet (suc n) (suc m) at k s hn hm = ends (decide (length sheet ≼ at)) (prints-enough sheet n m)
   where
-    reads : at < length sheet → holds (sound s) → Case (recordAt sheet at .refused ≐ 0) → Again sheet n m → Same sheet (suc n) (suc m) at k s
+    reads : at < length sheet → holds (sound s) → Case (recordAt sheet at .refused ≐ 0) → Again sheet n m
+        → Same sheet (suc n) (suc m) at k s
     reads b i (it-does-not unmet) again = print-refused sheet at k s n b i unmet ∙ sym (print-refused sheet at k s m b i unmet)
     reads b i (it-does z) again =
         let f = record-forward sheet at z .onward in
         let x = line (k + 1) (step s (recordAt sheet at .operation) .refused) (step s (recordAt sheet at .operation) .made) in
-        print-on sheet at k s n b i z ∙ ap (after x) (again _ _ _ (omega arith) (omega arith)) ∙ sym (print-on sheet at k s m b i z)
+        print-on sheet at k s n b i z ∙ ap (after x) (again _ _ _ (omega arith) (omega arith))
+        ∙ sym (print-on sheet at k s m b i z)
 
     sounds : at < length sheet → Case (sound s) → Again sheet n m → Same sheet (suc n) (suc m) at k s
     sounds b (it-does-not unmet) again = print-unsound sheet at k s n b unmet ∙ sym (print-unsound sheet at k s m b unmet)

@@ -27,8 +27,9 @@ prints x s = record { text = x; session = s }
 abbrev pub after : List ℕ → Printed → Printed
 after x p = prints (x ++ p .text) (p .session)
 
--- The lines of the records from a place on, in so many steps, after k records: each record meets 2, then 3, 4 and 6 as it is read,
--- and then is a single operation, and its line has "its number from 1, the refusal (0 if accepted), and the handle or link made".
+-- The lines of the records from a place on, in so many steps, after k records: each
+-- record meets 2, then 3, 4 and 6 as it is read, and then is a single operation, and its
+-- line has "its number from 1, the refusal (0 if accepted), and the handle or link made".
 unfoldable pub printFrom : List ℕ → ℕ → ℕ → ℕ → Session → Printed
 printFrom sheet zero at k s = prints [] s
 printFrom sheet (suc steps) at k s =

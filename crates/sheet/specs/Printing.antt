@@ -13,7 +13,7 @@ use Rattle.sheet.specs.declared.Next.the-variants.{At, LastLine, Nothing
 use Rattle.sheet.specs.declared.Part.{Part}
 use Rattle.sheet.specs.Run.{lineRoom}
 use Rattle.sheet.specs.Going.{linesOf, lent}
-use Rattle.sheet.specs.Whole.{fresh-lent}
+use Rattle.sheet.specs.WholeSheet.{fresh-lent}
 use Rattle.sheet.specs.Printed.{Printed, prints, after, printSheet, printAt, printNext, output, output-start}
 use Rattle.sheet.specs.PartOf.{partsLeft, PartOf}
 
@@ -46,14 +46,17 @@ pub record Ready (memory lines : List ℕ) : Type 0 where
   pub lends : holds (lent memory (linesOf lines 0))
   pub keeps : holds (kept (read memory))
 
-pub ready-fresh : (before memory lines : List ℕ) → words ≤ length before → lineRoom ≤ length lines → Leaves before memory freshSession → Ready memory lines
+pub ready-fresh : (before memory lines : List ℕ) → words ≤ length before → lineRoom ≤ length lines
+    → Leaves before memory freshSession → Ready memory lines
 ready-fresh before memory lines long room w =
     let x = fresh-lent before memory long w (linesOf lines 0) room in
     record { lends = x .0; keeps = x .1 }
 
-module _ (sheet : List ℕ) (from : Next) (memory after′ lines lines′ : List ℕ) (p : Part) (x : PartOf sheet from memory after′ lines lines′ p) where
+module _ (sheet : List ℕ) (from : Next) (memory after′ lines lines′ : List ℕ) (p : Part)
+    (x : PartOf sheet from memory after′ lines lines′ p) where
   pub ready-next : Ready memory lines → length lines′ ≡ length lines → Ready after′ lines′
-  ready-next g n = record { lends = (rw (x .session .same-length) (g .lends .0), rw n (g .lends .1)); keeps = x .keeps (g .keeps) }
+  ready-next g n =
+      record { lends = (rw (x .session .same-length) (g .lends .0), rw n (g .lends .1)); keeps = x .keeps (g .keeps) }
 
   -- where something is left, it is less than before
   pub parts-fewer : (p .next ≡ Nothing → ⊥) → partsLeft sheet (p .next) < partsLeft sheet from

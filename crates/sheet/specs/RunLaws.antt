@@ -34,14 +34,17 @@ module _ (sheet : List ℕ) (at k : ℕ) (s : Session) (l : Lines) where
       pub run-unsound : (holds (sound s) → ⊥) → runFrom sheet (suc n) at k s l ≡ endedBy s l at (k + 1) 2
       unfolding runFrom
       run-unsound unmet =
-          choose-no (length sheet ≼ at) _ _ begun ∙ choose-no (not (hasRoom l)) _ _ (λ f. f room) ∙ choose-yes (not (sound s)) _ _ unmet
+          choose-no (length sheet ≼ at) _ _ begun ∙ choose-no (not (hasRoom l)) _ _ (λ f. f room)
+          ∙ choose-yes (not (sound s)) _ _ unmet
 
       module _ (is : holds (sound s)) where
         -- a record that is refused as it is read
-        pub run-refused : (recordAt sheet at .refused ≡ 0 → ⊥) → runFrom sheet (suc n) at k s l ≡ endedBy s l at (k + 1) (recordAt sheet at .refused)
+        pub run-refused : (recordAt sheet at .refused ≡ 0 → ⊥)
+            → runFrom sheet (suc n) at k s l ≡ endedBy s l at (k + 1) (recordAt sheet at .refused)
         unfolding runFrom
         run-refused unmet =
-            choose-no (length sheet ≼ at) _ _ begun ∙ choose-no (not (hasRoom l)) _ _ (λ f. f room) ∙ choose-no (not (sound s)) _ _ (λ f. f is)
+            choose-no (length sheet ≼ at) _ _ begun ∙ choose-no (not (hasRoom l)) _ _ (λ f. f room)
+            ∙ choose-no (not (sound s)) _ _ (λ f. f is)
             ∙ choose-yes (not (recordAt sheet at .refused ≐ 0)) _ _ unmet
 
         -- one more record
@@ -51,7 +54,8 @@ module _ (sheet : List ℕ) (at k : ℕ) (s : Session) (l : Lines) where
             (withLine l (k + 1) (step s (recordAt sheet at .operation) .refused) (step s (recordAt sheet at .operation) .made))
         unfolding runFrom
         run-on z =
-            choose-no (length sheet ≼ at) _ _ begun ∙ choose-no (not (hasRoom l)) _ _ (λ f. f room) ∙ choose-no (not (sound s)) _ _ (λ f. f is)
+            choose-no (length sheet ≼ at) _ _ begun ∙ choose-no (not (hasRoom l)) _ _ (λ f. f room)
+            ∙ choose-no (not (sound s)) _ _ (λ f. f is)
             ∙ choose-no (not (recordAt sheet at .refused ≐ 0)) _ _ (λ f. f z)
 
 -- before the sheet's end
@@ -70,12 +74,17 @@ pub steps-enough : (sheet : List ℕ) (n m at k : ℕ) (s : Session) (l : Lines)
     → length sheet ≤ n + at
     → length sheet ≤ m + at
     → runFrom sheet n at k s l ≡ runFrom sheet m at k s l
-steps-enough sheet zero m at k s l hn hm = run-end sheet at k s l zero (omega arith) ∙ sym (run-end sheet at k s l m (omega arith))
-steps-enough sheet (suc n) zero at k s l hn hm = run-end sheet at k s l (suc n) (omega arith) ∙ sym (run-end sheet at k s l zero (omega arith))
-steps-enough sheet (suc n) (suc m) at k s l hn hm = ends (decide (length sheet ≼ at)) (λ x q t r y z. steps-enough sheet n m x q t r y z)
+steps-enough sheet zero m at k s l hn hm =
+    run-end sheet at k s l zero (omega arith) ∙ sym (run-end sheet at k s l m (omega arith))
+steps-enough sheet (suc n) zero at k s l hn hm =
+    run-end sheet at k s l (suc n) (omega arith) ∙ sym (run-end sheet at k s l zero (omega arith))
+steps-enough sheet (suc n) (suc m) at k s l hn hm =
+    ends (decide (length sheet ≼ at)) (λ x q t r y z. steps-enough sheet n m x q t r y z)
   where
-    reads : at < length sheet → holds (hasRoom l) → holds (sound s) → Case (recordAt sheet at .refused ≐ 0) → Again sheet n m → Same sheet (suc n) (suc m) at k s l
-    reads b o i (it-does-not unmet) again = run-refused sheet at k s l n b o i unmet ∙ sym (run-refused sheet at k s l m b o i unmet)
+    reads : at < length sheet → holds (hasRoom l) → holds (sound s) → Case (recordAt sheet at .refused ≐ 0) → Again sheet n m
+        → Same sheet (suc n) (suc m) at k s l
+    reads b o i (it-does-not unmet) again =
+        run-refused sheet at k s l n b o i unmet ∙ sym (run-refused sheet at k s l m b o i unmet)
     reads b o i (it-does z) again =
         let f = record-forward sheet at z .onward in
         run-on sheet at k s l n b o i z ∙ again _ _ _ _ (omega arith) (omega arith) ∙ sym (run-on sheet at k s l m b o i z)
@@ -102,12 +111,15 @@ module _ (sheet : List ℕ) (s : Session) (l : Lines) where
     pub sheet-refused : holds (sound s) → (headRefusal sheet ≡ 0 → ⊥) → runSheet sheet s l ≡ endedBy s l 0 0 (headRefusal sheet)
     unfolding runSheet
     sheet-refused is unmet =
-        choose-no (not (hasRoom l)) _ _ (λ f. f room) ∙ choose-no (not (sound s)) _ _ (λ f. f is) ∙ choose-yes (not (headRefusal sheet ≐ 0)) _ _ unmet
+        choose-no (not (hasRoom l)) _ _ (λ f. f room) ∙ choose-no (not (sound s)) _ _ (λ f. f is)
+        ∙ choose-yes (not (headRefusal sheet ≐ 0)) _ _ unmet
 
-    pub sheet-runs : holds (sound s) → headRefusal sheet ≡ 0 → runSheet sheet s l ≡ runFrom sheet (length sheet) (firstRecord sheet) 0 s l
+    pub sheet-runs : holds (sound s) → headRefusal sheet ≡ 0
+        → runSheet sheet s l ≡ runFrom sheet (length sheet) (firstRecord sheet) 0 s l
     unfolding runSheet
     sheet-runs is z =
-        choose-no (not (hasRoom l)) _ _ (λ f. f room) ∙ choose-no (not (sound s)) _ _ (λ f. f is) ∙ choose-no (not (headRefusal sheet ≐ 0)) _ _ (λ f. f z)
+        choose-no (not (hasRoom l)) _ _ (λ f. f room) ∙ choose-no (not (sound s)) _ _ (λ f. f is)
+        ∙ choose-no (not (headRefusal sheet ≐ 0)) _ _ (λ f. f z)
 
 -- a sheet from a place on
 module _ (sheet : List ℕ) (k : ℕ) (s : Session) (l : Lines) where

@@ -45,7 +45,8 @@ alike f a b x y s p q = go (decide f)
     go (it-does h) = ap (λ (r : Run). r .session) (choose-yes f a b h) ∙ p ∙ ap (run s) (sym (choose-yes f x y h))
     go (it-does-not n) = ap (λ (r : Run). r .session) (choose-no f a b n) ∙ q ∙ ap (run s) (sym (choose-no f x y n))
 
-pub ran-leaves : (sheet : List ℕ) (n at k : ℕ) (s : Session) (l : Lines) → runFrom sheet n at k s l .session ≡ run s (ranFrom sheet n at k s l)
+pub ran-leaves : (sheet : List ℕ) (n at k : ℕ) (s : Session) (l : Lines)
+    → runFrom sheet n at k s l .session ≡ run s (ranFrom sheet n at k s l)
 unfolding runFrom ranFrom endedBy run next
 ran-leaves sheet zero at k s l = refl
 ran-leaves sheet (suc n) at k s l =
@@ -71,6 +72,7 @@ sheet-further os sheet l =
 
 -- From fresh.
 pub sheet-demand : (sheet : List ℕ) (l : Lines)
-    → (runSheet sheet freshSession l .session ≡ sessionAfter (ranSheet sheet freshSession l)) × Demand3 (ranSheet sheet freshSession l)
+    → (runSheet sheet freshSession l .session ≡ sessionAfter (ranSheet sheet freshSession l))
+    × Demand3 (ranSheet sheet freshSession l)
 unfolding run
 sheet-demand sheet l = sheet-further [] sheet l

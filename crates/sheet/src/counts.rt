@@ -4,24 +4,15 @@ use session::names;
 ghost use mathlib.Core.Path.{_≡_};
 ghost use Prim.Native.Nat.{_+_, _≤_};
 ghost use lib.ListN.{length};
+ghost use Rattle.session.specs.Names.{mostObjects, mostLinks, objectPlaces, linkPlaces};
 ghost use Rattle.session.specs.Table.{read, words};
-ghost use Rattle.rules.specs.Formula.{test, count};
+ghost use Rattle.rules.specs.Formula.{count};
 ghost use Rattle.rules.specs.Reading.{isLive, isUndelivered, liveTasks, undeliveredLinks};
 
-fn is_undelivered(s: &[u64], l: u64) -> bool
-    requires { ⌜ (words ≤ length (now s)) × (l ≤ 2048) ⌝ }
-    ensures { λ r. ⌜ r ≡ test (isUndelivered (read (now (s .entry))) l) ⌝ }
-{
-    if session::get(s, Field::LinkState, l as usize) == names::LINK_OPEN {
-        return true;
-    }
-    session::get(s, Field::LinkState, l as usize) == names::READY
-}
-
 fn count_live(s: &[u64], last: u64) -> u64
-    requires { ⌜ (words ≤ length (now s)) × (last ≤ 512) ⌝ }
+    requires { ⌜ (words ≤ length (now s)) × (last ≤ mostObjects) ⌝ }
     ensures answer { λ r. ⌜ r ≡ count (last + 1) (isLive (read (now (s .entry)))) ⌝ }
-    ensures few { λ r. ⌜ r ≤ 513 ⌝ }
+    ensures few { λ r. ⌜ r ≤ objectPlaces ⌝ }
 {
     let mut found: u64 = 0;
     let mut h: u64 = 0;
@@ -35,14 +26,14 @@ fn count_live(s: &[u64], last: u64) -> u64
 }
 
 fn count_undelivered(s: &[u64], last: u64) -> u64
-    requires { ⌜ (words ≤ length (now s)) × (last ≤ 2048) ⌝ }
+    requires { ⌜ (words ≤ length (now s)) × (last ≤ mostLinks) ⌝ }
     ensures answer { λ r. ⌜ r ≡ count (last + 1) (isUndelivered (read (now (s .entry)))) ⌝ }
-    ensures few { λ r. ⌜ r ≤ 2049 ⌝ }
+    ensures few { λ r. ⌜ r ≤ linkPlaces ⌝ }
 {
     let mut found: u64 = 0;
     let mut l: u64 = 0;
     while l <= last {
-        if is_undelivered(s, l) {
+        if reading::is_undelivered(s, l) {
             found += 1;
         }
         l += 1;
@@ -54,7 +45,7 @@ fn count_undelivered(s: &[u64], last: u64) -> u64
 pub fn live_tasks(s: &[u64]) -> u64
     requires { ⌜ words ≤ length (now s) ⌝ }
     ensures answer { λ r. ⌜ r ≡ liveTasks (read (now (s .entry))) ⌝ }
-    ensures few { λ r. ⌜ r ≤ 513 ⌝ }
+    ensures few { λ r. ⌜ r ≤ objectPlaces ⌝ }
 {
     let objects = session::get(s, Field::Objects, 0);
     if names::MOST_OBJECTS < objects {
@@ -67,7 +58,7 @@ pub fn live_tasks(s: &[u64]) -> u64
 pub fn undelivered_links(s: &[u64]) -> u64
     requires { ⌜ words ≤ length (now s) ⌝ }
     ensures answer { λ r. ⌜ r ≡ undeliveredLinks (read (now (s .entry))) ⌝ }
-    ensures few { λ r. ⌜ r ≤ 2049 ⌝ }
+    ensures few { λ r. ⌜ r ≤ linkPlaces ⌝ }
 {
     let links = session::get(s, Field::Links, 0);
     if names::MOST_LINKS < links {

@@ -10,7 +10,7 @@ ghost use Rattle.rules.specs.Sound.{sound, kept};
 ghost use Rattle.rules.specs.Step.{step};
 ghost use Rattle.sheet.specs.Run.{hasRoom, withLine, runAt};
 ghost use Rattle.sheet.specs.Going.{linesOf, lent, Goes, Ends, runOf};
-ghost use Rattle.sheet.specs.Whole.{Ran, startAt};
+ghost use Rattle.sheet.specs.WholeSheet.{Ran, startAt};
 ghost use Rattle.sheet.specs.Closing.{Closes};
 
 mod counts;
@@ -82,7 +82,7 @@ fn has_room(lines: &[u8], used: usize) -> bool
 fn is_lent(memory: &[u64], lines: &[u8], used: usize) -> bool
     ensures { λ r. ⌜ r ≡ test (lent (now (memory .entry)) (linesOf (now (lines .entry)) used)) ⌝ }
 {
-    if memory.len() < session::names::WORDS {
+    if memory.len() < session::WORDS {
         return false;
     }
     has_room(lines, used)
@@ -118,7 +118,8 @@ fn answer_record(
     requires { ⌜ (words ≤ length (now memory)) × holds (sound (read (now memory))) × (used + 32 ≤ length (now lines)) ⌝ }
     ensures session { λ r. ⌜ Wrote (now (memory .entry)) (now (memory .exit)) (step (read (now (memory .entry))) op .leaves) ⌝ }
     ensures line { λ r. ⌜
-        linesOf (now (lines .exit)) r ≡ withLine (linesOf (now (lines .entry)) used) number (step (read (now (memory .entry))) op .refused) (step (read (now (memory .entry))) op .made)
+        linesOf (now (lines .exit)) r ≡ withLine (linesOf (now (lines .entry)) used) number
+        (step (read (now (memory .entry))) op .refused) (step (read (now (memory .entry))) op .made)
         ⌝ }
 {
     match engine::apply_sound(memory, op) {
@@ -180,7 +181,8 @@ fn run_records(
         (words ≤ length (now memory)) × (sure ≡ true → holds (kept (read (now memory)))) × (done ≤ first)
         ⌝ }
     ensures { λ r. ⌜
-        Ends (now (memory .entry)) (now (memory .exit)) (now (lines .exit)) r (runOf (now (sheet .entry)) first done (now (memory .entry)) (now (lines .entry)) used)
+        Ends (now (memory .entry)) (now (memory .exit)) (now (lines .exit)) r
+        (runOf (now (sheet .entry)) first done (now (memory .entry)) (now (lines .entry)) used)
         ⌝ }
 {
     let mut at = first;
@@ -239,7 +241,8 @@ fn run_at(
         holds (lent (now memory) (linesOf (now lines) used)) × (sure ≡ true → holds (kept (read (now memory)))) × (done ≤ at)
         ⌝ }
     ensures { λ r. ⌜
-        Ends (now (memory .entry)) (now (memory .exit)) (now (lines .exit)) r (runAt (now (sheet .entry)) at done (read (now (memory .entry))) (linesOf (now (lines .entry)) used))
+        Ends (now (memory .entry)) (now (memory .exit)) (now (lines .exit)) r
+        (runAt (now (sheet .entry)) at done (read (now (memory .entry))) (linesOf (now (lines .entry)) used))
         ⌝ }
 {
     match start_at(sheet, at, memory, sure) {
@@ -272,7 +275,8 @@ fn is_kept(memory: &[u64]) -> bool
 // session is looked at once; any other at each record.
 pub fn run(sheet: &[u8], memory: &mut [u64], lines: &mut [u8], used: usize) -> Ended
     ensures { λ r. ⌜
-        Ran (now (sheet .entry)) (now (memory .entry)) (now (memory .exit)) (now (lines .entry)) (now (lines .exit)) used r (read (now (memory .entry)))
+        Ran (now (sheet .entry)) (now (memory .entry)) (now (memory .exit)) (now (lines .entry)) (now (lines .exit)) used r
+        (read (now (memory .entry)))
         ⌝ }
 {
     if !is_lent(memory, lines, used) {

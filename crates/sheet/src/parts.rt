@@ -56,7 +56,9 @@ fn last_part(memory: &[u64], lines: &mut [u8], used: usize) -> Part
 fn part_of(run: Ended, memory: &[u64], lines: &mut [u8]) -> Part
     requires { ⌜ (words ≤ length (now memory)) × (run .ending ≡ 1 → 1 ≤ run .number) ⌝ }
     ensures { λ r. ⌜
-        TellsLast (now (memory .entry)) (now (lines .exit)) r (goingOn (ended (read (now (memory .entry))) (linesOf (now (lines .entry)) (run .used)) (run .place) (run .number) (run .ending)))
+        TellsLast (now (memory .entry)) (now (lines .exit)) r
+        (goingOn (ended (read (now (memory .entry))) (linesOf (now (lines .entry)) (run .used)) (run .place) (run .number)
+        (run .ending)))
         ⌝ }
 {
     if run.ending == refusals::NO_ROOM {

@@ -56,12 +56,16 @@ Again sheet n m = (at k : ℕ) (s : Session) → length sheet ≤ n + at → len
 
 -- Each record takes a byte at least, so that the sheet's length is steps enough.
 pub answers-enough : (sheet : List ℕ) (n m : ℕ) → Again sheet n m
-answers-enough sheet zero m at k s hn hm = answers-end sheet at k s zero (omega arith) ∙ sym (answers-end sheet at k s m (omega arith))
-answers-enough sheet (suc n) zero at k s hn hm = answers-end sheet at k s (suc n) (omega arith) ∙ sym (answers-end sheet at k s zero (omega arith))
+answers-enough sheet zero m at k s hn hm =
+    answers-end sheet at k s zero (omega arith) ∙ sym (answers-end sheet at k s m (omega arith))
+answers-enough sheet (suc n) zero at k s hn hm =
+    answers-end sheet at k s (suc n) (omega arith) ∙ sym (answers-end sheet at k s zero (omega arith))
 answers-enough sheet (suc n) (suc m) at k s hn hm = ends (decide (length sheet ≼ at)) (answers-enough sheet n m)
   where
-    reads : at < length sheet → holds (sound s) → Case (recordAt sheet at .refused ≐ 0) → Again sheet n m → Same sheet (suc n) (suc m) at k s
-    reads b i (it-does-not unmet) again = answers-refused sheet at k s n b i unmet ∙ sym (answers-refused sheet at k s m b i unmet)
+    reads : at < length sheet → holds (sound s) → Case (recordAt sheet at .refused ≐ 0) → Again sheet n m
+        → Same sheet (suc n) (suc m) at k s
+    reads b i (it-does-not unmet) again =
+        answers-refused sheet at k s n b i unmet ∙ sym (answers-refused sheet at k s m b i unmet)
     reads b i (it-does z) again =
         let f = record-forward sheet at z .onward in
         let a = answerTo k s (recordAt sheet at .operation) in

@@ -15,7 +15,8 @@ use Rattle.record.specs.Reading.{recordAt}
 use Rattle.record.specs.Sheet.{headRefusal, firstRecord}
 use Rattle.sheet.specs.Run.{lastLine}
 use Rattle.sheet.specs.Printed.{Printed, printFrom, printSheet, output}
-use Rattle.sheet_counts.specs.Answers.{Answered, answered, lineOf, linesOf, answerTo, answersFrom, answersOn, answers, isRefused, howMany, countsIn, countsOf}
+use Rattle.sheet_counts.specs.Answers.{Answered, answered, lineOf, linesOf, answerTo, answersFrom, answersOn, answers}
+use Rattle.sheet_counts.specs.Answers.{isRefused, howMany, countsIn, countsOf}
 use Rattle.sheet_counts.specs.HowMany.{one, how-many-next}
 use Rattle.sheet_counts.specs.TextRead.{pieces, newlines, hasRefusal, refusedLines}
 use Rattle.sheet_counts.specs.TextReadLaws.{pieces-line, newlines-line, body, refused-line}
@@ -93,7 +94,8 @@ refused-answers (a ∷ more) =
     let l = body (a .number) (a .refused) (a .made) in
     let e : one (hasRefusal l) ≡ one (isRefused a) = rw (refused-line (a .number) (a .refused) (a .made)) in
     ap (howMany hasRefusal) (pieces-line (a .number) (a .refused) (a .made) (linesOf more))
-    ∙ omega (arith, how-many-next hasRefusal l (pieces newline (linesOf more)), how-many-next isRefused a more, e, refused-answers more)
+    ∙ omega
+    (arith, how-many-next hasRefusal l (pieces newline (linesOf more)), how-many-next isRefused a more, e, refused-answers more)
 
 -- "refused records (lines with a refusal, line 0 too)": the lines printed before the last one that have a refusal.
 pub refused-printed : (sheet : List ℕ) → refusedLines (printSheet sheet freshSession .text) ≡ countsOf sheet .refused

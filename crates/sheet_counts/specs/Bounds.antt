@@ -8,17 +8,20 @@ use lib.ListN.{length}
 use Rattle.session.specs.Table.{Session}
 use Rattle.session.specs.Fresh.{freshSession}
 use Rattle.session.specs.declared.Field.the-variants.{Links, LinkState}
-use Rattle.session.specs.Names.{delivered}
+use Rattle.session.specs.Names.{delivered, mostLinks}
 use Rattle.rules.specs.Formula.{Formula, holds, count, not, Formula._≐_, Formula._≼_}
 use Rattle.rules.specs.FormulaLaws.{Case, decide, choose-case, Case.it-does, Case.it-does-not}
 use Rattle.rules.specs.Reading.{droppedCount}
-use Rattle.rules.specs.Sound.{sound, soundUsed, kept}
+use Rattle.rules.specs.Sound.{sound, kept}
 use Rattle.rules.specs.Step.{step}
 use Rattle.record.specs.Reading.{recordAt}
 use Rattle.record.specs.Sheet.{headRefusal, firstRecord}
 use Rattle.laws.specs.Counting.{count-yes, count-no}
 use Rattle.laws.specs.Fresh.{fresh-kept}
-use Rattle.laws.specs.StepKeeps.{step-keeps, kept-sound}
+use Rattle.laws.specs.Rows.Name.{counts, dropped, freeLinks}
+use Rattle.laws.specs.Conjuncts.{no-link}
+use Rattle.laws.specs.ByName.{kept-sound, sound-by-name}
+use Rattle.laws.specs.StepKeeps.{step-keeps}
 use Rattle.sheet.specs.Printed.{Printed, printFrom, printSheet}
 use Rattle.sheet_counts.specs.Answers.{Answered, answersFrom, answersOn, answers, isRefused, isStart, countsIn, countsOf}
 use Rattle.sheet_counts.specs.HowMany.{how-many-most}
@@ -73,20 +76,19 @@ count-behind (suc n) f h = go (decide (f (suc n))) (count-behind n f h)
     go (it-does-not x) l = rw (count-no (suc n) f x) (omega arith)
 
 -- "dropped is at most the delivered links", of which there are at most 2,048
-pub dropped-most : (s : Session) → holds (sound s) → droppedCount s ≤ 2048
-unfolding sound soundUsed
+pub dropped-most : (s : Session) → holds (sound s) → droppedCount s ≤ mostLinks
 dropped-most s h =
-    let d = h .0 .1 .1 .1 .1 .1 .1 .1 .1 .1 .1 .1 .1 in
-    let none : s LinkState 0 ≡ 0 = h .1 .0 .1 .1 .1 in
+    let r = sound-by-name s h in
+    let none : s LinkState 0 ≡ 0 = no-link s 0 (r freeLinks .0) .no-state in
     let c = count-behind (s Links 0) (λ l. s LinkState l ≐ delivered) (λ e. omega arith) in
-    omega (arith, h .0 .0 .1 .1, rw add-one at d, c)
+    omega (arith, r counts .1 .1, rw add-one at (r dropped), c)
 
 -- What a class may lean on.
 pub record Bounds (sheet : List ℕ) : Type 0 where
   pub records : countsOf sheet .records ≤ length sheet + 1
   pub refused : countsOf sheet .refused ≤ countsOf sheet .records
   pub starts : countsOf sheet .starts ≤ countsOf sheet .records
-  pub dropped : countsOf sheet .dropped ≤ 2048
+  pub dropped : countsOf sheet .dropped ≤ mostLinks
 
 pub bounds : (sheet : List ℕ) → Bounds sheet
 unfolding countsOf countsIn

@@ -12,7 +12,8 @@ use Rattle.rules.specs.Sound.{sound, kept}
 use Rattle.rules.specs.Step.{step}
 use Rattle.record.specs.Reading.{recordAt}
 use Rattle.record.specs.Laws.{record-forward}
-use Rattle.laws.specs.StepKeeps.{step-keeps, kept-sound}
+use Rattle.laws.specs.ByName.{kept-sound}
+use Rattle.laws.specs.StepKeeps.{step-keeps}
 use Rattle.sheet.specs.Printed.{Printed, printFrom}
 use Rattle.sheet.specs.PrintLaws.{print-end, print-refused, print-on, prints-enough}
 use Rattle.sheet_counts.specs.declared.Tally.{Tally}
@@ -60,8 +61,8 @@ unfoldable pub Leads : List ℕ → ℕ → ℕ → Session → Session → Went
 Leads sheet at k s t (On next answer) = LeadsOn sheet at k s t next answer
 Leads sheet at k s t Stopped = Ends sheet at k s t
 
--- What running one record does: the words past the layout stay, the session is kept, and after any number of records its answer is
--- the next.
+-- What running one record does: the words past the layout stay, the
+-- session is kept, and after any number of records its answer is the next.
 pub record Goes (sheet : List ℕ) (at : ℕ) (before after : List ℕ) (w : Went) : Type 0 where
   pub same-length : length after ≡ length before
   pub past : drop words after ≡ drop words before
@@ -94,8 +95,11 @@ module _ (sheet : List ℕ) (at : ℕ) (ws : List ℕ) (inside : at < length she
         };
       }
 
-  pub goes-on : (after : List ℕ) → recordAt sheet at .refused ≡ 0 → Wrote ws after (step (read ws) (recordAt sheet at .operation) .leaves)
-      → Goes sheet at ws after (On (recordAt sheet at .next) (told (step (read ws) (recordAt sheet at .operation) .refused) (recordAt sheet at .operation .code)))
+  pub goes-on : (after : List ℕ) → recordAt sheet at .refused ≡ 0
+      → Wrote ws after (step (read ws) (recordAt sheet at .operation) .leaves)
+      → Goes sheet at ws after
+      (On (recordAt sheet at .next)
+      (told (step (read ws) (recordAt sheet at .operation) .refused) (recordAt sheet at .operation .code)))
   unfolding Leads
   goes-on after z w =
       let op = recordAt sheet at .operation in
@@ -123,7 +127,8 @@ pub record Running (sheet : List ℕ) (first : ℕ) (before now-memory : List �
   pub records-done : records ≡ length done
   pub refused-done : refused ≡ howMany isRefused done
   pub starts-done : starts ≡ howMany isStart done
-  pub answers : answersFrom sheet (length sheet) first 0 (read before) ≡ done ++ answersFrom sheet (length sheet) at records (read now-memory)
+  pub answers : answersFrom sheet (length sheet) first 0 (read before)
+      ≡ done ++ answersFrom sheet (length sheet) at records (read now-memory)
   pub session : leftFrom sheet first (read before) ≡ printFrom sheet (length sheet) at records (read now-memory) .session
 
 pub running-first : (sheet : List ℕ) (first : ℕ) (ws : List ℕ) → holds (kept (read ws)) → Running sheet first ws ws first 0 0 0
@@ -162,16 +167,19 @@ module _ (sheet : List ℕ) (first : ℕ) (before ws : List ℕ) (at records ref
   abbrev session-of : Printed → Session
   session-of p = p .session
 
-  wrote : (after : List ℕ) → length after ≡ length ws → drop words after ≡ drop words ws → left ≡ read after → Wrote before after left
+  wrote : (after : List ℕ) → length after ≡ length ws → drop words after ≡ drop words ws → left ≡ read after
+      → Wrote before after left
   wrote after n p e = record { same-length = n ∙ g .same-length; reading = sym e; past = p ∙ g .past }
 
   -- the answers so far are all
-  pub running-end : length sheet ≤ at → (tallyOf records refused starts (read ws) ≡ countsFrom sheet first (read before)) × Wrote before ws left
+  pub running-end : length sheet ≤ at
+      → (tallyOf records refused starts (read ws) ≡ countsFrom sheet first (read before)) × Wrote before ws left
   running-end h =
       let n = length sheet in
       let e : whole ≡ g .done = g .answers ∙ ap with-done (answers-end sheet at records (read ws) n h) ∙ append-nil (g .done) in
       let s : left ≡ read ws = g .session ∙ ap session-of (print-end sheet at records (read ws) n h) in (
-        counts-as sheet first (read before) records refused starts (read ws) (g .done) e s (g .records-done) (g .refused-done) (g .starts-done),
+        counts-as sheet first (read before) records refused starts (read ws) (g .done) e s (g .records-done) (g .refused-done)
+            (g .starts-done),
         wrote ws refl refl s,
       )
 
@@ -191,7 +199,8 @@ module _ (sheet : List ℕ) (first : ℕ) (before ws : List ℕ) (at records ref
 
     -- the record here has the last answer
     pub running-stop : Goes sheet at ws after Stopped
-        → (tallyOf (records + 1) (refused + 1) starts (read after) ≡ countsFrom sheet first (read before)) × Wrote before after left
+        → (tallyOf (records + 1) (refused + 1) starts (read after) ≡ countsFrom sheet first (read before))
+        × Wrote before after left
     unfolding Leads howMany
     running-stop o =
         let l = o .leads records in
@@ -221,8 +230,10 @@ module _ (sheet : List ℕ) (first : ℕ) (before ws : List ℕ) (at records ref
           few = omega (arith, g .few, l .onward);
           done = g .done ++ a ∷ [];
           records-done = omega (arith, length-append (g .done) (a ∷ []), g .records-done);
-          refused-done = omega (arith, how-many-last isRefused (g .done) a, g .refused-done, ap (λ (x : Told). x .refused) (l .counted));
-          starts-done = omega (arith, how-many-last isStart (g .done) a, g .starts-done, ap (λ (x : Told). x .starts) (l .counted));
+          refused-done =
+              omega (arith, how-many-last isRefused (g .done) a, g .refused-done, ap (λ (x : Told). x .refused) (l .counted));
+          starts-done =
+              omega (arith, how-many-last isStart (g .done) a, g .starts-done, ap (λ (x : Told). x .starts) (l .counted));
           answers = answers-here ∙ ap with-done (l .answers behind)
               ∙ sym (append-assoc (g .done) (a ∷ []) (answersFrom sheet behind next k (read after)))
               ∙ ap (λ (x : List Answered). (g .done ++ a ∷ []) ++ x)

@@ -8,7 +8,10 @@ use Rattle.session.specs.Fresh.{freshSession}
 use Rattle.rules.specs.Formula.{test, count}
 use Rattle.rules.specs.Reading.{under}
 use Rattle.rules.specs.Checks.{refusal}
-use Rattle.rules.specs.Effects.{new, newTemplate, newEvent, newTask, makeTask, fire, fireOne, satisfySlot, tally, satisfyEvent, satisfy, claim, newLink, depend, buryDoomed, letGo, destroyEvent, fireFinished, destroyTask, destroy, drops, deliver, grant, start}
+use Rattle.rules.specs.EventTypes.{ofType}
+use Rattle.rules.specs.Effects.{new, newTemplate, newEvent, newTask, makeTask, fire, fireOne, satisfySlot, tally, satisfyEvent}
+use Rattle.rules.specs.Effects.{satisfy, claim, newLink, depend, buryDoomed, letGo, destroyEvent, fireFinished, destroyTask}
+use Rattle.rules.specs.Effects.{destroy, drops, deliver, grant, start}
 use Rattle.rules.specs.Step.{rules, answer, after}
 use Rattle.record.specs.Reading.{behind, place, five, answered, recordAt}
 use Rattle.sheet_counts.specs.declared.Tally.{Tally}
@@ -58,14 +61,19 @@ pub record Edges : Type 0 where
   pub other-head : countsOf otherHead ≡ counts 1 1 0 0
   pub one-dropped : countsOf oneDropped ≡ counts 9 0 1 1
 
-short : (plainCounts mainStarts ≡ counts 2 0 1 0) × (plainCounts notMade ≡ counts 1 1 0 0) × (plainCounts notGranted ≡ counts 1 1 0 0)
+short : (plainCounts mainStarts ≡ counts 2 0 1 0) × (plainCounts notMade ≡ counts 1 1 0 0)
+    × (plainCounts notGranted ≡ counts 1 1 0 0)
     × (plainCounts [] ≡ counts 1 1 0 0) × (plainCounts headAlone ≡ counts 0 0 0 0) × (plainCounts cutShort ≡ counts 2 1 0 0)
     × (plainCounts otherHead ≡ counts 1 1 0 0)
-unfolding plainCounts plainFrom recordAt answered five place behind refusal test refusalOf valueOf readAt readFirst judged shortest lastByte value more answer after rules freshSession new put change grant start
+unfolding plainCounts plainFrom recordAt answered five place behind refusal test refusalOf valueOf readAt readFirst judged
+    shortest lastByte value more answer after rules freshSession new put change grant start
 short = (refl, refl, refl, refl, refl, refl, refl)
 
 dropped : plainCounts oneDropped ≡ counts 9 0 1 1
-unfolding plainCounts plainFrom recordAt answered five place behind refusal test count under refusalOf valueOf readAt readFirst judged shortest lastByte value more answer after rules freshSession new put change grant start newTemplate newEvent newTask makeTask fire fireOne satisfySlot tally satisfyEvent satisfy claim newLink depend buryDoomed letGo destroyEvent fireFinished destroyTask destroy drops deliver
+unfolding plainCounts plainFrom recordAt answered five place behind refusal test ofType count under refusalOf valueOf readAt
+    readFirst judged shortest lastByte value more answer after rules freshSession new put change grant start newTemplate newEvent
+    newTask makeTask fire fireOne satisfySlot tally satisfyEvent satisfy claim newLink depend buryDoomed letGo destroyEvent
+    fireFinished destroyTask destroy drops deliver
 dropped = refl
 
 pub edges-hold : Edges

@@ -11,8 +11,8 @@ use Rattle.rules.specs.Sound.{sound, kept}
 use Rattle.record.specs.declared.Place.the-variants.{Behind, Refused}
 use Rattle.record.specs.Sheet.{headRefusal, headAt}
 use Rattle.laws.specs.Fresh.{fresh-kept}
-use Rattle.laws.specs.StepKeeps.{kept-sound}
-use Rattle.sheet.specs.Whole.{head-first, head-number}
+use Rattle.laws.specs.ByName.{kept-sound}
+use Rattle.sheet.specs.WholeSheet.{head-first, head-number}
 use Rattle.sheet.specs.Printed.{Printed, printSheet}
 use Rattle.sheet.specs.PrintLaws.{print-head, print-records}
 use Rattle.sheet_counts.specs.Answers.{answered, isRefused, isStart, howMany, countsIn, countsOf}
@@ -26,7 +26,8 @@ pub fresh-keeps : (ws : List ℕ) → read ws ≡ freshSession → holds (kept (
 fresh-keeps ws e = rw e fresh-kept
 
 -- one answer, which is refused and no start
-one-refused : (n : ℕ) → (n ≡ 0 → ⊥) → (howMany isRefused (answered 0 n 0 0 ∷ []) ≡ 1) × (howMany isStart (answered 0 n 0 0 ∷ []) ≡ 0)
+one-refused : (n : ℕ) → (n ≡ 0 → ⊥)
+    → (howMany isRefused (answered 0 n 0 0 ∷ []) ≡ 1) × (howMany isStart (answered 0 n 0 0 ∷ []) ≡ 0)
 unfolding howMany
 one-refused n f = (choose-yes (not (n ≐ 0)) 1 0 f, choose-no (0 ≐ 11 and n ≐ 0) 1 0 (λ h. f (h .1)))
 
@@ -41,7 +42,8 @@ module _ (sheet ws : List ℕ) (fresh : read ws ≡ freshSession) where
       (rw (answers-head sheet freshSession fresh-sound f, s, o .0, o .1, fresh), rw (s, ← fresh) (wrote-none ws))
 
   pub whole-behind : (first : ℕ) → headAt sheet ≡ Behind first
-      → (countsFrom sheet first (read ws) ≡ countsOf sheet) × (leftFrom sheet first (read ws) ≡ printSheet sheet freshSession .session)
+      → (countsFrom sheet first (read ws) ≡ countsOf sheet)
+      × (leftFrom sheet first (read ws) ≡ printSheet sheet freshSession .session)
   unfolding countsOf countsFrom leftFrom
   whole-behind first e =
       let h = head-first sheet first e in

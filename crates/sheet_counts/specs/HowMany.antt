@@ -19,7 +19,9 @@ how-many-next f a more = go (decide (f a))
   where
     go : Case (f a) → howMany f (a ∷ more) ≡ one (f a) + howMany f more
     go (it-does h) = rw (choose-yes (f a) (1 + howMany f more) (howMany f more) h, choose-yes {A = ℕ} (f a) 1 0 h)
-    go (it-does-not n) = rw (choose-no (f a) (1 + howMany f more) (howMany f more) n, choose-no {A = ℕ} (f a) 1 0 n) (sym (zero-add (howMany f more)))
+    go (it-does-not n) =
+        rw (choose-no (f a) (1 + howMany f more) (howMany f more) n, choose-no {A = ℕ} (f a) 1 0 n)
+        (sym (zero-add (howMany f more)))
 
 pub how-many-both : {A : Type 0} (f : A → Formula) (x y : List A) → howMany f (x ++ y) ≡ howMany f x + howMany f y
 unfolding howMany

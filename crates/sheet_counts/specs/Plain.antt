@@ -14,7 +14,8 @@ use Rattle.rules.specs.Step.{answer, after, step}
 use Rattle.record.specs.Reading.{recordAt}
 use Rattle.record.specs.Sheet.{headRefusal, firstRecord}
 use Rattle.laws.specs.Fresh.{fresh-kept}
-use Rattle.laws.specs.StepKeeps.{step-keeps, kept-step, kept-sound}
+use Rattle.laws.specs.ByName.{kept-sound}
+use Rattle.laws.specs.StepKeeps.{step-keeps, kept-step}
 use Rattle.sheet.specs.RunLaws.{below}
 use Rattle.sheet.specs.Printed.{Printed, printFrom}
 use Rattle.sheet.specs.PrintLaws.{print-end, print-refused, print-on, print-head, print-records}
@@ -51,7 +52,8 @@ plainCounts sheet =
     choose (not (headRefusal sheet ≐ 0)) (oneMore (headRefusal sheet) 0 (nothingMore freshSession))
     (plainFrom sheet (length sheet) (firstRecord sheet) freshSession)
 
-next-more : (a : Answered) (list : List Answered) (s : Session) → countsIn (a ∷ list) s ≡ oneMore (a .refused) (a .code) (countsIn list s)
+next-more : (a : Answered) (list : List Answered) (s : Session)
+    → countsIn (a ∷ list) s ≡ oneMore (a .refused) (a .code) (countsIn list s)
 unfolding countsIn
 next-more a list s = rw (how-many-next isRefused a list, how-many-next isStart a list)
 
@@ -74,7 +76,8 @@ module _ (sheet : List ℕ) (at : ℕ) (s : Session) where
     begun : length sheet ≤ at → ⊥
     begun h = omega arith
 
-    plain-refused : (recordAt sheet at .refused ≡ 0 → ⊥) → plainFrom sheet (suc n) at s ≡ oneMore (recordAt sheet at .refused) 0 (nothingMore s)
+    plain-refused : (recordAt sheet at .refused ≡ 0 → ⊥)
+        → plainFrom sheet (suc n) at s ≡ oneMore (recordAt sheet at .refused) 0 (nothingMore s)
     unfolding plainFrom
     plain-refused f = choose-no (length sheet ≼ at) _ _ begun ∙ choose-yes (not (recordAt sheet at .refused ≐ 0)) _ _ f
 
@@ -103,10 +106,12 @@ counts-from : (sheet : List ℕ) (n : ℕ) → Again sheet n
 counts-from sheet zero at k s h = counts-zero sheet at k s h
 counts-from sheet (suc n) at k s h = ends (decide (length sheet ≼ at)) (counts-from sheet n)
   where
-    reads : at < length sheet → Case (recordAt sheet at .refused ≐ 0) → Again sheet n → countsAt sheet (suc n) at k s ≡ plainFrom sheet (suc n) at s
+    reads : at < length sheet → Case (recordAt sheet at .refused ≐ 0) → Again sheet n
+        → countsAt sheet (suc n) at k s ≡ plainFrom sheet (suc n) at s
     reads b (it-does-not f) again =
         let i = kept-sound s h in
-        rw (answers-refused sheet at k s n b i f, ap left (print-refused sheet at k s n b i f), plain-refused sheet at s n b f) (last-more _ s)
+        rw (answers-refused sheet at k s n b i f, ap left (print-refused sheet at k s n b i f), plain-refused sheet at s n b f)
+        (last-more _ s)
     reads b (it-does z) again =
         let i = kept-sound s h in
         let op = recordAt sheet at .operation in
@@ -115,15 +120,19 @@ counts-from sheet (suc n) at k s h = ends (decide (length sheet ≼ at)) (counts
         (next-more (answerTo k s op) _ _ ∙ ap (oneMore (step s op .refused) (op .code)) w ∙ rw (kept-step s op h))
 
     ends : Case (length sheet ≼ at) → Again sheet n → countsAt sheet (suc n) at k s ≡ plainFrom sheet (suc n) at s
-    ends (it-does e) again = rw (answers-end sheet at k s (suc n) e, ap left (print-end sheet at k s (suc n) e), plain-end sheet at s (suc n) e) (none s)
+    ends (it-does e) again =
+        rw (answers-end sheet at k s (suc n) e, ap left (print-end sheet at k s (suc n) e), plain-end sheet at s (suc n) e)
+        (none s)
     ends (it-does-not f) again = reads (below sheet at f) (decide (recordAt sheet at .refused ≐ 0)) again
 
 -- the cases of a whole sheet
-plain-head : (sheet : List ℕ) → (headRefusal sheet ≡ 0 → ⊥) → plainCounts sheet ≡ oneMore (headRefusal sheet) 0 (nothingMore freshSession)
+plain-head : (sheet : List ℕ) → (headRefusal sheet ≡ 0 → ⊥)
+    → plainCounts sheet ≡ oneMore (headRefusal sheet) 0 (nothingMore freshSession)
 unfolding plainCounts
 plain-head sheet f = choose-yes (not (headRefusal sheet ≐ 0)) _ _ f
 
-plain-records : (sheet : List ℕ) → headRefusal sheet ≡ 0 → plainCounts sheet ≡ plainFrom sheet (length sheet) (firstRecord sheet) freshSession
+plain-records : (sheet : List ℕ) → headRefusal sheet ≡ 0
+    → plainCounts sheet ≡ plainFrom sheet (length sheet) (firstRecord sheet) freshSession
 unfolding plainCounts
 plain-records sheet z = choose-no (not (headRefusal sheet ≐ 0)) _ _ (λ f. f z)
 
@@ -133,8 +142,16 @@ counts-plain sheet = go (decide (headRefusal sheet ≐ 0))
   where
     go : Case (headRefusal sheet ≐ 0) → countsOf sheet ≡ plainCounts sheet
     go (it-does z) =
-        rw (answers-records sheet freshSession fresh-sound z, ap left (print-records sheet freshSession fresh-sound z), plain-records sheet z)
+        rw (
+          answers-records sheet freshSession fresh-sound z,
+          ap left (print-records sheet freshSession fresh-sound z),
+          plain-records sheet z,
+        )
         (counts-from sheet (length sheet) (firstRecord sheet) 0 freshSession fresh-kept)
     go (it-does-not f) =
-        rw (answers-head sheet freshSession fresh-sound f, ap left (print-head sheet freshSession fresh-sound f), plain-head sheet f)
+        rw (
+          answers-head sheet freshSession fresh-sound f,
+          ap left (print-head sheet freshSession fresh-sound f),
+          plain-head sheet f,
+        )
         (last-more _ freshSession)

@@ -1,7 +1,7 @@
 -- The starts that a sheet's answers tell of are the tasks that run or have ended in the session that it leaves. Each step is
 -- shown by the book of demand 3: a start adds one to its column of starts, and no other call touches that column.
 use Prim.Native.Nat.{ℕ, zero, suc, _+_, _-_, _≤_, _<_}
-use mathlib.Core.List.{List, []}
+use mathlib.Core.List.{List}
 use mathlib.Core.Path.{_≡_, refl, ap, sym, _∙_}
 use mathlib.Core.Logic.{inl, inr}
 use native.Mathlib.Omega.{arith}
@@ -10,26 +10,29 @@ use lib.ListN.{length}
 use Rattle.session.specs.Table.{Session, put}
 use Rattle.session.specs.Fresh.{emptySession, firstObjects, freshSession}
 use Rattle.session.specs.declared.Field.the-variants.{Objects, Kind, TaskState}
-use Rattle.session.specs.Names.{task, event, running, ended, latch}
+use Rattle.session.specs.Names.{task, running, ended, mostObjects}
 use Rattle.rules.specs.declared.Operation.{Operation}
-use Rattle.rules.specs.Formula.{Formula, holds, test, choose, count, not, Formula._≐_, Formula._≼_, Formula._and_, Formula._or_}
-use Rattle.rules.specs.FormulaLaws.{Case, decide, choose-yes, choose-no, choose-case, Case.it-does, Case.it-does-not}
+use Rattle.rules.specs.Formula.{Formula, holds, test, choose, count, not, Formula._≐_, Formula._≼_, Formula._and_}
+use Rattle.rules.specs.FormulaLaws.{Case, decide, choose-yes, choose-no, Case.it-does, Case.it-does-not}
 use Rattle.rules.specs.Reading.{isKind}
 use Rattle.rules.specs.Sound.{sound, kept, taskPart}
-use Rattle.rules.specs.Step.{arg, step}
-use Rattle.rules.specs.Book.{Book, Column, enter, enterObject, enterTask, enterLink, satisfies, strike, enterDestroy, enterDeliver, enterEnd, entered, opening}
+use Rattle.rules.specs.Step.{arg, rules, Rule, step, entered}
+use Rattle.rules.specs.Book.{Book, Column, enter, enterStart, opening}
 use Rattle.rules.specs.Demand.{accepted, next, sessionAfter, bookAfter}
 use Rattle.record.specs.Reading.{recordAt}
 use Rattle.record.specs.Sheet.{headRefusal, firstRecord}
-use Rattle.laws.specs.Kept.{rest-of}
+use Rattle.laws.specs.Rows.Name.{counts, kinds, taskParts}
+use Rattle.laws.specs.ByName.{by-name}
 use Rattle.laws.specs.Counting.{count-same, count-one}
 use Rattle.laws.specs.Column.{set-here, set-there}
 use Rattle.laws.specs.Fresh.{fresh-kept}
+use Rattle.laws.specs.Accepted.{rule-at}
+use Rattle.laws.specs.Operations.{proved}
 use Rattle.laws.specs.StepKeeps.{step-keeps}
 use Rattle.laws.specs.OneCall.{objects-grow, refusal-stays}
 use Rattle.laws.specs.Runs.{always-kept}
 use Rattle.laws.specs.Relation.{Related}
-use Rattle.laws.specs.Entered.{entered-start}
+use Rattle.laws.specs.Relation.Clause.{same-objects, blank-starts, starts-agree}
 use Rattle.laws.specs.RelatedFresh.{related-fresh}
 use Rattle.laws.specs.RelatedStep.{related-step}
 use Rattle.laws.specs.RelatedRuns.{related-next, always-related}
@@ -59,7 +62,8 @@ entry b h = b Column.Starts h ≐ 1
 book-started : (s : Session) (b : Book) → holds (kept s) → Related s b → startedTasks s ≡ count (s Objects 0 + 1) (entry b)
 unfolding startedTasks
 book-started s b k r =
-    count-same (s Objects 0 + 1) (started s) (entry b) (λ h l x. r .starts h .0 (x .1)) (λ h l e. there h l e (decide (begun s h)))
+    count-same (s Objects 0 + 1) (started s) (entry b) (λ h l x. r starts-agree h .0 (x .1))
+    (λ h l e. there h l e (decide (begun s h)))
   where
     -- only a task has a state
     kind : (h : ℕ) → running ≤ s TaskState h → holds (taskPart s h) → s Kind h ≡ task
@@ -67,47 +71,19 @@ book-started s b k r =
     kind h u (inr x) = let z = x .1 .0 in absurd (omega arith)
 
     there : (h : ℕ) → h < s Objects 0 + 1 → b Column.Starts h ≡ 1 → Case (begun s h) → holds (started s h)
-    there h l e (it-does x) = (kind h (x .0) (rest-of s k .objects .1 h l .1 .1 .0), x)
-    there h l e (it-does-not n) = let z = r .starts h .1 n in absurd (omega arith)
-
--- a satisfaction enters no start
-satisfies-none : (b : Book) (d j p h : ℕ) → satisfies b d j p Column.Starts h ≡ b Column.Starts h
-unfolding enter satisfies test
-satisfies-none b d j p h =
-    let P : Book → Type 0 = λ c. c Column.Starts h ≡ b Column.Starts h in
-    choose-case P (b Column.Kind d ≐ task) _ _ (λ _. refl) (λ _.
-    choose-case P (b Column.EventType d ≐ latch or b Column.Satisfied d ≐ 1) _ _ (λ _. refl) (λ _. refl))
+    there h l e (it-does x) = (kind h (x .0) (by-name s k taskParts h (omega (arith, by-name s k counts))), x)
+    there h l e (it-does-not n) = let z = r starts-agree h .1 n in absurd (omega arith)
 
 -- only a start is entered as one
 enters-none : (b : Book) (o : Operation) → (o .code ≡ 11 → ⊥) → (h : ℕ) → entered b o Column.Starts h ≡ b Column.Starts h
-unfolding entered enter enterObject enterTask enterLink strike enterDestroy enterDeliver enterEnd test
-enters-none b o n h =
-    let P : Book → Type 0 = λ c. c Column.Starts h ≡ b Column.Starts h in
-    let c = o .code in
-    choose-case P (c ≐ 1) _ _ (λ _. refl) (λ _.
-    choose-case P (c ≐ 2) _ _ (λ _. choose-case P (arg o 4 ≐ 1) _ _ (λ _. refl) (λ _. refl)) (λ _.
-    choose-case P (c ≐ 3) _ _ (λ _. refl) (λ _.
-    choose-case P (c ≐ 4) _ _ (λ _. refl) (λ _.
-    choose-case P (c ≐ 5) _ _ (λ _. depends) (λ _.
-    choose-case P (c ≐ 6) _ _ (λ _. satisfies-none b _ _ _ h) (λ _.
-    choose-case P (c ≐ 8) _ _ (λ _. destroys) (λ _.
-    choose-case P (c ≐ 9) _ _ (λ _. satisfies-none (enter b Column.Struck (arg o 0) 1) _ _ _ h) (λ _.
-    choose-case P (c ≐ 11) _ _ (λ e. absurd (n e)) (λ _.
-    choose-case P (c ≐ 12) _ _ (λ _. choose-case P (b Column.Output (arg o 0) ≐ 1) _ _ (λ _. refl) (λ _. refl)) (λ _. refl))))))))))
-  where
-    depends : let linked = enterLink b (arg o 1) (arg o 2) (arg o 3) in
-        let satisfied = satisfies b (arg o 2) (arg o 3) (arg o 1) in
-        choose (b Column.Kind (arg o 1) ≐ event) linked satisfied Column.Starts h ≡ b Column.Starts h
-    depends =
-        let P : Book → Type 0 = λ c. c Column.Starts h ≡ b Column.Starts h in
-        choose-case P (b Column.Kind (arg o 1) ≐ event) _ _ (λ _. refl) (λ _. satisfies-none b _ _ _ h)
+unfolding entered
+enters-none b o n h = proved o .starts n b o h
 
-    destroys : enterDestroy b (arg o 1) Column.Starts h ≡ b Column.Starts h
-    destroys =
-        let P : Book → Type 0 = λ c. c Column.Starts h ≡ b Column.Starts h in
-        let d = arg o 1 in
-        choose-case P (b Column.Kind d ≐ event) _ _ (λ _. refl) (λ _.
-        choose-case P (b Column.Kind d ≐ task and b Column.Output d ≐ 1) _ _ (λ _. refl) (λ _. refl))
+-- a start enters itself
+entered-start : (b : Book) (o : Operation) → o .code ≡ 11
+    → entered b o ≡ enter b Column.Starts (arg o 0) (b Column.Starts (arg o 0) + 1)
+unfolding entered enterStart rules
+entered-start b o c = ap (λ (r : Rule). r .enters b o) (rule-at o 11 c)
 
 -- one accepted call
 module _ (s : Session) (b : Book) (o : Operation) (k : holds (kept s)) (r : Related s b) (a : step s o .refused ≡ 0) where
@@ -129,7 +105,7 @@ module _ (s : Session) (b : Book) (o : Operation) (k : holds (kept s)) (r : Rela
       ∙ count-same (left Objects 0 + 1) (entry (entered b o)) (entry b)
       (λ h l e. sym (enters-none b o n h) ∙ e) (λ h l e. enters-none b o n h ∙ e)
       ∙ ap (λ (m : ℕ). count m (entry b)) sum
-      ∙ count-past more (s Objects 0 + 1) (entry b) (λ i l e. let z = r .unmade .starts i (omega arith) in omega arith)
+      ∙ count-past more (s Objects 0 + 1) (entry b) (λ i l e. let z = r blank-starts i (omega arith) in omega arith)
       ∙ sym (book-started s b k r)
 
   -- the book's starts of a task are 0 or 1, so that a start finds 0
@@ -152,16 +128,16 @@ module _ (s : Session) (b : Book) (o : Operation) (k : holds (kept s)) (r : Rela
       there : (i : ℕ) → (t ≡ i → ⊥) → later Column.Starts i ≡ b Column.Starts i
       there i n = set-there (b Column.Starts) t (b Column.Starts t + 1) i n
 
-      same-objects : left Objects 0 ≡ s Objects 0
-      same-objects = sym (is .shape .objects) ∙ r .shape .objects
+      objects-stay : left Objects 0 ≡ s Objects 0
+      objects-stay = sym (is same-objects) ∙ r same-objects
 
       go : Case (begun left t) → Case (t ≼ s Objects 0) → startedTasks left ≡ 1 + startedTasks s
-      go (it-does-not n) l = let z = is .starts t .1 n in absurd (omega (arith, here))
-      go (it-does x) (it-does-not n) = let z = is .unmade .starts t (omega (arith, same-objects)) in absurd (omega (arith, here))
+      go (it-does-not n) l = let z = is starts-agree t .1 n in absurd (omega (arith, here))
+      go (it-does x) (it-does-not n) = let z = is blank-starts t (omega (arith, objects-stay)) in absurd (omega (arith, here))
       go (it-does x) (it-does l) =
-          let z = is .starts t .0 x in
+          let z = is starts-agree t .0 x in
           left-started
-          ∙ rw (entered-start b o c, same-objects)
+          ∙ rw (entered-start b o c, objects-stay)
           (count-one (s Objects 0 + 1) (entry b) (entry later) t (omega arith) (λ e. omega (arith, here)) z
           (λ i m n e. there i n ∙ e) (λ i m n e. sym (there i n) ∙ e))
           ∙ ap (λ (m : ℕ). 1 + m) (sym (book-started s b k r))
@@ -233,10 +209,10 @@ unfolding countsOf countsIn
 starts-left sheet = omega (arith, sheet-starts sheet freshSession opening fresh-kept related-fresh, fresh-started)
 
 -- A session has at most 512 objects, and so no more starts.
-pub starts-most : (sheet : List ℕ) → countsOf sheet .starts ≤ 512
+pub starts-most : (sheet : List ℕ) → countsOf sheet .starts ≤ mostObjects
 unfolding startedTasks
 starts-most sheet =
     let s = printSheet sheet freshSession .session in
-    let x = rest-of s (sheet-keeps sheet freshSession fresh-kept) in
-    let c = count-behind (s Objects 0) (started s) (λ e. let z = x .objects .0 in omega (arith, e .0)) in
-    omega (arith, starts-left sheet, rw (← add-one) at c, x .counts .1 .0)
+    let x = by-name s (sheet-keeps sheet freshSession fresh-kept) in
+    let c = count-behind (s Objects 0) (started s) (λ e. let z = x kinds .0 in omega (arith, e .0)) in
+    omega (arith, starts-left sheet, rw (← add-one) at c, x counts .1 .0)

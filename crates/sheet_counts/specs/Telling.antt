@@ -40,8 +40,10 @@ module _ (reply : Reply) (code : ℕ) where
           let y : _≡_ {A = ℕ} 0 1 = cc (answer-refused reply f, e) in
           absurd (omega arith)
 
-  pub told-accepted : (m n : ℕ) → Accepted m ≡ answerOf reply → n ≡ one (code ≐ 11) → record { refused = 0; starts = n } ≡ told (reply .refused) code
+  pub told-accepted : (m n : ℕ) → Accepted m ≡ answerOf reply → n ≡ one (code ≐ 11)
+      → record { refused = 0; starts = n } ≡ told (reply .refused) code
   told-accepted m n e o =
       let z = none m e in
-      let same : one (code ≐ 11 and reply .refused ≐ 0) ≡ one (code ≐ 11) = rw (test-same (code ≐ 11 and reply .refused ≐ 0) (code ≐ 11) (λ h. h .0) (λ h. (h, z))) in
+      let same : one (code ≐ 11 and reply .refused ≐ 0) ≡ one (code ≐ 11) =
+      rw (test-same (code ≐ 11 and reply .refused ≐ 0) (code ≐ 11) (λ h. h .0) (λ h. (h, z))) in
       told-as (reply .refused) code 0 n (choose-no (not (reply .refused ≐ 0)) 1 0 (λ f. f z)) (rw o same)

@@ -74,7 +74,8 @@ body-newline : (a b c : ℕ) → Without newline (body a b c)
 body-newline a b c =
     let d : (v : ℕ) → Without newline (decimal v) = λ v. without-decimal newline v (lit< tt) in
     let other : space ≡ newline → ⊥ = λ e. omega arith in
-    without-both newline (decimal a) (space ∷ two b c) (d a) (other, without-both newline (decimal b) (space ∷ decimal c) (d b) (other, d c))
+    without-both newline (decimal a) (space ∷ two b c) (d a)
+    (other, without-both newline (decimal b) (space ∷ decimal c) (d b) (other, d c))
 
 -- a line behind which there is text
 pub pieces-line : (a b c : ℕ) (rest : List ℕ) → pieces newline (line a b c ++ rest) ≡ body a b c ∷ pieces newline rest
@@ -97,7 +98,8 @@ words a b c =
     let d : (v : ℕ) → Without space (decimal v) = λ v. without-decimal space v (lit< tt) in
     pieces-first space (decimal a) (two b c) (d a)
     ∙ ap (λ (l : List (List ℕ)). decimal a ∷ l)
-    (pieces-first space (decimal b) (decimal c) (d b) ∙ ap (λ (l : List (List ℕ)). decimal b ∷ l) (pieces-last space (decimal c) (d c)))
+    (pieces-first space (decimal b) (decimal c) (d b)
+    ∙ ap (λ (l : List (List ℕ)). decimal b ∷ l) (pieces-last space (decimal c) (d c)))
 
 -- only 0 is written `0`
 zero-word : (v : ℕ) → holds (isZeroWord (decimal v)) → v ≡ 0
@@ -114,5 +116,6 @@ word-zero v z = rw (z, decimal-one 0 (lit< tt)) (refl, refl)
 
 pub refused-line : (a b c : ℕ) → test (hasRefusal (body a b c)) ≡ test (not (b ≐ 0))
 refused-line a b c =
-    let w : getD (pieces space (body a b c)) 1 zeroWord ≡ decimal b = ap (λ (l : List (List ℕ)). getD l 1 zeroWord) (words a b c) in
+    let w : getD (pieces space (body a b c)) 1 zeroWord ≡ decimal b =
+    ap (λ (l : List (List ℕ)). getD l 1 zeroWord) (words a b c) in
     rw w (test-same (not (isZeroWord (decimal b))) (not (b ≐ 0)) (λ f z. f (word-zero b z)) (λ f h. f (zero-word b h)))

@@ -3,5 +3,5 @@ pub mod Bodies
 pub mod Row
 pub mod LinkOf
 pub mod Held
-pub mod Holders
-pub mod Whole
+pub mod HolderTable
+pub mod RulesInOrder

@@ -10,12 +10,18 @@ use native.Mathlib.Omega.{arith}
 use native.Mathlib.Decide.{decLt}
 use native.Mathlib.Numerals.{add-one}
 use Rattle.session.specs.Table.{Session}
-use Rattle.session.specs.declared.Field.the-variants.{Objects, Links, Kind, TaskState, TaskSlots, EventPayload, SlotMode, SlotMark, SlotPayload, LinkSource, LinkTarget, LinkSlot, LinkState}
-use Rattle.session.specs.Names.{task, delivered, held, taskDestroyed}
-use Rattle.rules.specs.Formula.{Formula, holds, test, choose, not, _iff_, Formula._≐_, Formula._≼_, Formula._and_, Formula._or_, Formula._then_, Formula.each, Formula.some}
-use Rattle.rules.specs.FormulaLaws.{passes, passed, failed, Case, decide, choose-yes, choose-no, Case.it-does, Case.it-does-not, test-same}
+use Rattle.session.specs.declared.Field.the-variants.{Objects, Links, Kind, TaskState, TaskSlots, EventPayload, SlotMode}
+use Rattle.session.specs.declared.Field.the-variants.{SlotMark, SlotPayload, LinkSource, LinkTarget, LinkSlot, LinkState}
+use Rattle.session.specs.Names.{task, delivered, held, taskDestroyed, mostObjects, slotPlaces}
+use Rattle.rules.specs.Formula.{Formula, holds, test, choose, not, _iff_, Formula._≐_, Formula._≼_, Formula._and_, Formula._or_}
+use Rattle.rules.specs.Formula.{Formula._then_, Formula.each, Formula.some}
+use Rattle.rules.specs.FormulaLaws.{passes, passed, failed, Case, decide, choose-yes, choose-no, Case.it-does, Case.it-does-not}
+use Rattle.rules.specs.FormulaLaws.{test-same}
 use Rattle.rules.specs.Reading.{at, isKind}
-use Rattle.rules.specs.Sound.{isPayload, objects, links, oneLink, slot, slots, claimed, unclaimed, leadsTo, noLink, noSlot, isLink}
+use Rattle.rules.specs.Sound.{isPayload, objects, links, oneLink, slot, slots, claimed, unclaimed, leadsTo, noLink, noSlot}
+use Rattle.rules.specs.Sound.{isLink}
+use Rattle.laws.specs.Parts.{made-taskPart}
+use Rattle.laws.specs.Conjuncts.{link-by-name, Linked.target-made, Linked.has-slot}
 use Rattle.laws.specs.SlotPlaces.{same-task, same-slot, low-slot}
 use Rattle.laws.specs.Places.{Places, places, Places.one, Places.two}
 use Rattle.sound.specs.Bodies.{linkAt}
@@ -47,7 +53,9 @@ module _ (s : Session) where
   linkedBy m t j = s TaskState t ≐ taskDestroyed or (s SlotMark (at t j) ≐ 0 iff (1 ≼ m and not (s LinkState m ≐ delivered)))
 
   abbrev pub paidBy : ℕ → ℕ → ℕ → Formula
-  paidBy m t j = 1 ≼ s SlotMark (at t j) then (1 ≼ m and s LinkState m ≐ delivered then s SlotPayload (at t j) ≐ s EventPayload (s LinkSource m))
+  paidBy m t j =
+      1 ≼ s SlotMark (at t j) then
+      (1 ≼ m and s LinkState m ≐ delivered then s SlotPayload (at t j) ≐ s EventPayload (s LinkSource m))
 
   abbrev pub claimedBy : ℕ → ℕ → ℕ → Formula
   claimedBy m t j =
@@ -63,9 +71,12 @@ module _ (s : Session) where
       or (isKind s task h then s TaskSlots h ≼ j) and noSlot s (at h j)
 
   -- a slot that there is, and a place where there is none
-  pub slot-there : (m h j : ℕ) → (eqb (s Kind h) task && ltb j (s TaskSlots h)) ≡ true → test (slotBy m h j) ≡ (test (unclaimedBy m h j) || test (claimedBy m h j))
+  pub slot-there : (m h j : ℕ) → (eqb (s Kind h) task && ltb j (s TaskSlots h)) ≡ true
+      → test (slotBy m h j) ≡ (test (unclaimedBy m h j) || test (claimedBy m h j))
   unfolding test
-  slot-there m h j e = test-same (slotBy m h j) (unclaimedBy m h j or claimedBy m h j) to (λ y. inl (is .0, (is .1, y))) ∙ test-either (unclaimedBy m h j) (claimedBy m h j)
+  slot-there m h j e =
+      test-same (slotBy m h j) (unclaimedBy m h j or claimedBy m h j) to (λ y. inl (is .0, (is .1, y))) ∙ test-either
+      (unclaimedBy m h j) (claimedBy m h j)
     where
       is : holds (isKind s task h and suc j ≼ s TaskSlots h)
       is = passed (isKind s task h and suc j ≼ s TaskSlots h) (test-both (isKind s task h) (suc j ≼ s TaskSlots h) ∙ e)
@@ -74,7 +85,8 @@ module _ (s : Session) where
       to (inl y) = y .1 .1
       to (inr y) = let z = y .0 (is .0) in let l = is .1 in absurd (omega arith)
 
-  pub slot-nowhere : (m h j : ℕ) → (eqb (s Kind h) task && ltb j (s TaskSlots h)) ≡ false → test (slotBy m h j) ≡ test (noSlot s (at h j))
+  pub slot-nowhere : (m h j : ℕ) → (eqb (s Kind h) task && ltb j (s TaskSlots h)) ≡ false
+      → test (slotBy m h j) ≡ test (noSlot s (at h j))
   unfolding test
   slot-nowhere m h j e = test-same (slotBy m h j) (noSlot s (at h j)) to (λ y. inr ((λ k. past k (decLt j (s TaskSlots h))), y))
     where
@@ -115,7 +127,8 @@ module _ (s : Session) where
     where
       go : Case (leads n p) → (1 ≤ lastLink n p → (lastLink n p < n) × holds (leads (lastLink n p) p))
           → (lastLink (suc n) p < suc n) × holds (leads (lastLink (suc n) p) p)
-      go (it-does h) r = let e : lastLink (suc n) p ≡ n = choose-yes (leads n p) n (lastLink n p) h in (rw e (omega arith), rw e h)
+      go (it-does h) r =
+          let e : lastLink (suc n) p ≡ n = choose-yes (leads n p) n (lastLink n p) h in (rw e (omega arith), rw e h)
       go (it-does-not f) r =
           let e : lastLink (suc n) p ≡ lastLink n p = choose-no (leads n p) n (lastLink n p) f in
           let x : (lastLink n p < n) × holds (leads (lastLink n p) p) = r (subst (λ (k : ℕ). 1 ≤ k) e l) in
@@ -147,10 +160,13 @@ module _ (s : Session) where
         go (inr x) = x
 
     pub low : (l : ℕ) → l < N → 1 ≤ l → s LinkSlot l < 16
-    low l b o = let x = link l b o in low-slot s (s LinkTarget l) (s LinkSlot l) (k .objects) (x .1 .1 .0) (x .1 .1 .1 .1 .0)
+    low l b o =
+        let x = link-by-name l s (link l b o) in
+        let m = x target-made .1 in
+        low-slot s (s LinkTarget l) (s LinkSlot l) (made-taskPart s (k .objects) (s LinkTarget l) (omega arith)) (x has-slot)
 
     pub made-target : (l : ℕ) → l < N → 1 ≤ l → s LinkTarget l ≤ s Objects 0
-    made-target l b o = link l b o .1 .1 .0 .1
+    made-target l b o = link-by-name l s (link l b o) target-made .1
 
     -- what leads to a task's slot is not the null link
     not-null : (h l : ℕ) → s Kind h ≡ task → s LinkTarget l ≡ h → 1 ≤ l
@@ -164,7 +180,8 @@ module _ (s : Session) where
             let q : _≡_ {A = ℕ} 0 2 = sym (k .objects .0) ∙ ap (λ (i : ℕ). s Kind i) (sym h0) ∙ t in
             absurd (omega arith)
 
-    place-same : (l m : ℕ) → s LinkTarget l ≡ s LinkTarget m → s LinkSlot l ≡ s LinkSlot m → at (s LinkTarget l) (s LinkSlot l) ≡ at (s LinkTarget m) (s LinkSlot m)
+    place-same : (l m : ℕ) → s LinkTarget l ≡ s LinkTarget m → s LinkSlot l ≡ s LinkSlot m
+        → at (s LinkTarget l) (s LinkSlot l) ≡ at (s LinkTarget m) (s LinkSlot m)
     place-same l m e d = rw (e, d)
 
     pub single-same : test (each N single) ≡ test (oneLink s)
@@ -202,7 +219,8 @@ module _ (s : Session) where
                 let lm : s LinkSlot m < 16 = low m bm (omega arith) in
                 let ll : s LinkSlot l < 16 = low l b o in
                 let pl : at (s LinkTarget m) (s LinkSlot m) ≡ at (s LinkTarget l) (s LinkSlot l) = at-m .1 .1 .1 in
-                absurd (h m bm l (omega arith) (at-m .1 .1 .0) (sym (same-task _ _ _ _ ll lm pl), sym (same-slot _ _ _ _ ll lm pl)))
+                absurd (h m bm l (omega arith) (at-m .1 .1 .0)
+                (sym (same-task _ _ _ _ ll lm pl), sym (same-slot _ _ _ _ ll lm pl)))
 
     module _ (u : holds (oneLink s)) (h j : ℕ) (t : s Kind h ≡ task) (jl : j < 16) where
       abbrev M : ℕ
@@ -248,7 +266,8 @@ module _ (s : Session) where
       unclaimed-to x = (x .0, (x .1 .0, (x .1 .1 .0, zero-to (x .1 .1 .1))))
 
       unclaimed-from : holds (unclaimedBy M h j) → holds (unclaimed s h j)
-      unclaimed-from x = (x .0, (x .1 .0, (x .1 .1 .0, λ z. let o = only (z .0) (z .1) (z .2) .0 in let e : M ≡ 0 = x .1 .1 .1 in omega arith)))
+      unclaimed-from x =
+          (x .0, (x .1 .0, (x .1 .1 .0, λ z. let o = only (z .0) (z .1) (z .2) .0 in let e : M ≡ 0 = x .1 .1 .1 in omega arith)))
 
       abbrev undelivered : ℕ → Formula
       undelivered l = not (s LinkState l ≐ delivered)
@@ -265,7 +284,9 @@ module _ (s : Session) where
       linked-from (inr x) = inr (λ z. some-from undelivered (x .0 z), λ z. x .1 (some-to undelivered z))
 
       abbrev paidTo : Formula
-      paidTo = 1 ≼ s SlotMark (at h j) then each N (λ l. leadsTo s h j l and s LinkState l ≐ delivered then s SlotPayload (at h j) ≐ s EventPayload (s LinkSource l))
+      paidTo =
+          1 ≼ s SlotMark (at h j) then each N
+          (λ l. leadsTo s h j l and s LinkState l ≐ delivered then s SlotPayload (at h j) ≐ s EventPayload (s LinkSource l))
 
       paid-to : holds paidTo → holds (paidBy M h j)
       paid-to x m d = let y = last-there (d .0) in x m M (y .0) (y .1, d .1)
@@ -273,15 +294,36 @@ module _ (s : Session) where
       paid-from : holds (paidBy M h j) → holds paidTo
       paid-from x m l b d =
           let o = only l b (d .0) in
-          subst (λ (k : ℕ). s SlotPayload (at h j) ≡ s EventPayload (s LinkSource k)) (sym (o .1)) (x m (o .0, subst (λ (k : ℕ). s LinkState k ≡ delivered) (o .1) (d .1)))
+          subst (λ (k : ℕ). s SlotPayload (at h j) ≡ s EventPayload (s LinkSource k)) (sym (o .1))
+          (x m (o .0, subst (λ (k : ℕ). s LinkState k ≡ delivered) (o .1) (d .1)))
 
       either-to : holds (unclaimed s h j or claimed s h j) → holds (unclaimedBy M h j or claimedBy M h j)
       either-to (inl x) = inl (unclaimed-to x)
-      either-to (inr x) = inr (x .0, (x .1 .0, (x .1 .1 .0, (x .1 .1 .1 .0, (x .1 .1 .1 .1 .0, (linked-to (x .1 .1 .1 .1 .1 .0), paid-to (x .1 .1 .1 .1 .1 .1)))))))
+      either-to (inr x) =
+          inr (
+            x .0,
+            (
+              x .1 .0,
+              (x .1 .1 .0, (x .1 .1 .1 .0, (x .1 .1 .1 .1 .0, (linked-to (x .1 .1 .1 .1 .1 .0), paid-to (x .1 .1 .1 .1 .1 .1))))),
+            ),
+          )
 
       either-from : holds (unclaimedBy M h j or claimedBy M h j) → holds (unclaimed s h j or claimed s h j)
       either-from (inl x) = inl (unclaimed-from x)
-      either-from (inr x) = inr (x .0, (x .1 .0, (x .1 .1 .0, (x .1 .1 .1 .0, (x .1 .1 .1 .1 .0, (linked-from (x .1 .1 .1 .1 .1 .0), paid-from (x .1 .1 .1 .1 .1 .1)))))))
+      either-from (inr x) =
+          inr (
+            x .0,
+            (
+              x .1 .0,
+              (
+                x .1 .1 .0,
+                (
+                  x .1 .1 .1 .0,
+                  (x .1 .1 .1 .1 .0, (linked-from (x .1 .1 .1 .1 .1 .0), paid-from (x .1 .1 .1 .1 .1 .1))),
+                ),
+              ),
+            ),
+          )
 
     slot-to : holds (oneLink s) → (h j : ℕ) → j < 16 → holds (slot s h j) → holds (slotAt h j)
     slot-to u h j l (inl x) = inl (x .0, (x .1 .0, either-to u h j (x .0) l (x .1 .1)))
@@ -293,26 +335,32 @@ module _ (s : Session) where
 
     pub slots-same : holds (oneLink s) → test (each (s Objects 0 + 1) slotsAt) ≡ test (slots s)
     slots-same u =
-        test-same (each (s Objects 0 + 1) slotsAt) (slots s) (λ x h b j l. slot-from u h j l (x h b j l)) (λ x h b j l. slot-to u h j l (x h b j l))
+        test-same (each (s Objects 0 + 1) slotsAt) (slots s) (λ x h b j l. slot-from u h j l (x h b j l))
+        (λ x h b j l. slot-to u h j l (x h b j l))
 
   -- one link more in the row
-  pub row-link : (a : List ℕ) (l : ℕ) → Row a 8208 (lastLink l) → 1 ≤ l → s Kind (s LinkTarget l) ≡ task → at (s LinkTarget l) (s LinkSlot l) < 8208
-      → Row (set a (at (s LinkTarget l) (s LinkSlot l)) l) 8208 (lastLink (l + 1))
+  pub row-link : (a : List ℕ) (l : ℕ) → Row a slotPlaces (lastLink l) → 1 ≤ l → s Kind (s LinkTarget l) ≡ task
+      → at (s LinkTarget l) (s LinkSlot l) < slotPlaces
+      → Row (set a (at (s LinkTarget l) (s LinkSlot l)) l) slotPlaces (lastLink (l + 1))
   row-link a l r o t b =
-      row-set a 8208 (lastLink l) (lastLink (l + 1)) (at (s LinkTarget l) (s LinkSlot l)) l r b (last-yes l _ (o, (t, refl))) (λ p q n. last-no l p (λ x. n (x .1 .1)))
+      row-set a slotPlaces (lastLink l) (lastLink (l + 1)) (at (s LinkTarget l) (s LinkSlot l)) l r b
+      (last-yes l _ (o, (t, refl))) (λ p q n. last-no l p (λ x. n (x .1 .1)))
 
-  pub row-skip : (a : List ℕ) (l : ℕ) → Row a 8208 (lastLink l) → (s Kind (s LinkTarget l) ≡ task → ⊥) → Row a 8208 (lastLink (l + 1))
-  row-skip a l r n = row-same a 8208 (lastLink l) (lastLink (l + 1)) r (λ p q. last-no l p (λ x. n (x .1 .0)))
+  pub row-skip : (a : List ℕ) (l : ℕ) → Row a slotPlaces (lastLink l) → (s Kind (s LinkTarget l) ≡ task → ⊥)
+      → Row a slotPlaces (lastLink (l + 1))
+  row-skip a l r n = row-same a slotPlaces (lastLink l) (lastLink (l + 1)) r (λ p q. last-no l p (λ x. n (x .1 .0)))
 
   -- before the first link
-  pub row-first : (a : List ℕ) → Row a 8208 (λ p. 0) → Row a 8208 (lastLink 1)
-  row-first a r = row-same a 8208 (λ p. 0) (lastLink 1) r (λ p q. last-no 0 p (λ x. let z : 1 ≤ 0 = x .0 in omega arith) ∙ last-none p)
+  pub row-first : (a : List ℕ) → Row a slotPlaces (λ p. 0) → Row a slotPlaces (lastLink 1)
+  row-first a r =
+      row-same a slotPlaces (λ p. 0) (lastLink 1) r
+      (λ p q. last-no 0 p (λ x. let z : 1 ≤ 0 = x .0 in omega arith) ∙ last-none p)
 
   -- the links' slots have places
   abbrev pub Low : Type 0
-  Low = (l : ℕ) → l < s Links 0 + 1 → 1 ≤ l → (s LinkTarget l ≤ 512) × (s LinkSlot l < 16)
+  Low = (l : ℕ) → l < s Links 0 + 1 → 1 ≤ l → (s LinkTarget l ≤ mostObjects) × (s LinkSlot l < 16)
 
-  pub linked-low : Linked s → s Objects 0 ≤ 512 → Low
+  pub linked-low : Linked s → s Objects 0 ≤ mostObjects → Low
   linked-low k b l q o = (let m = made-target k l q o in omega arith, low k l q o)
 
   -- the null link counts for nothing

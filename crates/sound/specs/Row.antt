@@ -11,11 +11,14 @@ pub record Row (a : List ℕ) (n : ℕ) (f : ℕ → ℕ) : Type 0 where
   pub entry : (p : ℕ) → p < n → getD a p 0 ≡ f p
 
 -- one entry written
-pub row-set : (a : List ℕ) (n : ℕ) (f g : ℕ → ℕ) (i v : ℕ) → Row a n f → i < n → g i ≡ v → ((p : ℕ) → p < n → (i ≡ p → ⊥) → g p ≡ f p) → Row (set a i v) n g
+pub row-set : (a : List ℕ) (n : ℕ) (f g : ℕ → ℕ) (i v : ℕ) → Row a n f → i < n → g i ≡ v
+    → ((p : ℕ) → p < n → (i ≡ p → ⊥) → g p ≡ f p) → Row (set a i v) n g
 row-set a n f g i v r l e same = record { size = length-set a i v ∙ r .size; entry = λ p q. go p q (places i p) }
   where
     go : (p : ℕ) → p < n → Places i p → getD (set a i v) p 0 ≡ g p
-    go p q (one w) = subst (λ (k : ℕ). getD (set a i v) k 0 ≡ g k) w (getD-set-same a i v 0 (subst (λ (k : ℕ). i < k) (sym (r .size)) l) ∙ sym e)
+    go p q (one w) =
+        subst (λ (k : ℕ). getD (set a i v) k 0 ≡ g k) w
+        (getD-set-same a i v 0 (subst (λ (k : ℕ). i < k) (sym (r .size)) l) ∙ sym e)
     go p q (two w) = getD-set-other a i p v 0 (λ z. w (sym z)) ∙ r .entry p q ∙ sym (same p q w)
 
 -- the same numbers said otherwise

@@ -4,17 +4,20 @@ ghost use Prim.Native.Nat.{ℕ, _+_, _*_, _<_, _≤_};
 ghost use lib.ListN.{length, getD};
 ghost use Rattle.session.specs.Table.{read, words};
 ghost use Rattle.session.specs.declared.Field.the-variants.{SlotMark};
-ghost use Rattle.session.specs.Names.{held};
+ghost use Rattle.session.specs.Names.{held, mostObjects, objectPlaces, slotPlaces};
 ghost use Rattle.rules.specs.Formula.{test, Formula.each};
 ghost use Rattle.sound.specs.Bodies.{clashMade, compatibleAt};
 ghost use Rattle.sound.specs.Row.{Row};
-ghost use Rattle.sound.specs.Holders.{Holders, joined, isOther, cell, clashes};
-ghost use Rattle.sound.specs.Whole.{IsHeld};
+ghost use Rattle.sound.specs.HolderTable.{Holders, joined, isOther, cell, cells, clashes};
+ghost use Rattle.sound.specs.RulesInOrder.{IsHeld};
 use reading::of_object;
 use reading::of_slot;
 use rules::modes::conflicts;
 use session::Field;
 use session::names;
+
+// A place for each handle and each of the four modes.
+const CELLS: usize = names::OBJECT_PLACES * 4;
 
 // The hold of slot i conflicts with the hold of the task that made its block.
 fn clashes_with_maker(s: &[u64], i: u64) -> bool
@@ -27,7 +30,7 @@ fn clashes_with_maker(s: &[u64], i: u64) -> bool
     (of_object(s, Field::BlockHeld, block) == 1) & (other & conflicts(mode, names::RW))
 }
 
-// The holder noted once task u holds too: 513 where there is more than one.
+// The holder noted once task u holds too: a number past every handle where there is more than one.
 fn join(w: u64, u: u64) -> u64
     ensures { λ r. ⌜ r ≡ joined w u ⌝ }
 {
@@ -37,12 +40,12 @@ fn join(w: u64, u: u64) -> u64
     if w == u {
         return u;
     }
-    513
+    names::OBJECT_PLACES as u64
 }
 
 // Whether another task than t holds block b in mode c + 1, by the holders noted.
-fn is_other(row: &[u64; 2052], b: u64, c: u64, t: u64) -> bool
-    requires { ⌜ (b < 513) × (c < 4) ⌝ }
+fn is_other(row: &[u64; CELLS], b: u64, c: u64, t: u64) -> bool
+    requires { ⌜ (b < objectPlaces) × (c < 4) ⌝ }
     ensures { λ r. ⌜ r ≡ isOther (getD (now (row .entry)) (cell b c) 0) t ⌝ }
 {
     let i = (b * 4 + c) as usize;
@@ -51,8 +54,8 @@ fn is_other(row: &[u64; 2052], b: u64, c: u64, t: u64) -> bool
 }
 
 // Whether the hold of slot i conflicts with that of an earlier slot.
-fn does_clash(s: &[u64], row: &[u64; 2052], i: u64) -> bool
-    requires { ⌜ (words ≤ length (now s)) × (i < 8208) × IsHeld (read (now s)) i × Holders (read (now s)) (now row) i ⌝ }
+fn does_clash(s: &[u64], row: &[u64; CELLS], i: u64) -> bool
+    requires { ⌜ (words ≤ length (now s)) × (i < slotPlaces) × IsHeld (read (now s)) i × Holders (read (now s)) (now row) i ⌝ }
     ensures { λ r. ⌜ r ≡ test (clashes (read (now (s .entry))) i) ⌝ }
 {
     let b = of_slot(s, Field::SlotPayload, i);
@@ -64,8 +67,9 @@ fn does_clash(s: &[u64], row: &[u64; 2052], i: u64) -> bool
     rw | (ew | constant)
 }
 
-fn is_compatible(s: &[u64], row: &[u64; 2052], i: u64) -> bool
-    requires { ⌜ (words ≤ length (now s)) × (i < 8208) × (read (now s) SlotMark i ≡ held → IsHeld (read (now s)) i) × Holders (read (now s)) (now row) i ⌝ }
+fn is_compatible(s: &[u64], row: &[u64; CELLS], i: u64) -> bool
+    requires { ⌜ (words ≤ length (now s)) × (i < slotPlaces) × (read (now s) SlotMark i ≡ held → IsHeld (read (now s)) i)
+        × Holders (read (now s)) (now row) i ⌝ }
     ensures { λ r. ⌜ r ≡ test (compatibleAt (read (now (s .entry))) i) ⌝ }
 {
     if of_slot(s, Field::SlotMark, i) != names::HELD {
@@ -75,8 +79,9 @@ fn is_compatible(s: &[u64], row: &[u64; 2052], i: u64) -> bool
 }
 
 // Notes the holder of the block that slot i holds.
-fn note_held(s: &[u64], row: &mut [u64; 2052], i: u64)
-    requires { ⌜ (words ≤ length (now s)) × (i < 8208) × (read (now s) SlotMark i ≡ held) × IsHeld (read (now s)) i × Holders (read (now s)) (now row) i ⌝ }
+fn note_held(s: &[u64], row: &mut [u64; CELLS], i: u64)
+    requires { ⌜ (words ≤ length (now s)) × (i < slotPlaces) × (read (now s) SlotMark i ≡ held) × IsHeld (read (now s)) i
+        × Holders (read (now s)) (now row) i ⌝ }
     ensures { λ r. ⌜ Holders (read (now (s .entry))) (now (row .exit)) (i + 1) ⌝ }
 {
     let b = of_slot(s, Field::SlotPayload, i);
@@ -85,8 +90,9 @@ fn note_held(s: &[u64], row: &mut [u64; 2052], i: u64)
     row[at] = join(row[at], i / 16);
 }
 
-fn note_holder(s: &[u64], row: &mut [u64; 2052], i: u64)
-    requires { ⌜ (words ≤ length (now s)) × (i < 8208) × (read (now s) SlotMark i ≡ held → IsHeld (read (now s)) i) × Holders (read (now s)) (now row) i ⌝ }
+fn note_holder(s: &[u64], row: &mut [u64; CELLS], i: u64)
+    requires { ⌜ (words ≤ length (now s)) × (i < slotPlaces) × (read (now s) SlotMark i ≡ held → IsHeld (read (now s)) i)
+        × Holders (read (now s)) (now row) i ⌝ }
     ensures { λ r. ⌜ Holders (read (now (s .entry))) (now (row .exit)) (i + 1) ⌝ }
 {
     if of_slot(s, Field::SlotMark, i) == names::HELD {
@@ -94,9 +100,10 @@ fn note_holder(s: &[u64], row: &mut [u64; 2052], i: u64)
     }
 }
 
-fn are_compatible_by(s: &[u64], row: &mut [u64; 2052], n: u64) -> bool
-    requires { ⌜ (words ≤ length (now s)) × (n ≤ 512) × ((i : ℕ) → i < 16 * (n + 1) → read (now s) SlotMark i ≡ held → IsHeld (read (now s)) i)
-        × Row (now row) 2052 (λ p. 0) ⌝ }
+fn are_compatible_by(s: &[u64], row: &mut [u64; CELLS], n: u64) -> bool
+    requires { ⌜ (words ≤ length (now s)) × (n ≤ mostObjects)
+        × ((i : ℕ) → i < 16 * (n + 1) → read (now s) SlotMark i ≡ held → IsHeld (read (now s)) i)
+        × Row (now row) cells (λ p. 0) ⌝ }
     ensures { λ r. ⌜ r ≡ test (each (16 * (n + 1)) (compatibleAt (read (now (s .entry))))) ⌝ }
 {
     let end = 16 * (n + 1);
@@ -112,9 +119,10 @@ fn are_compatible_by(s: &[u64], row: &mut [u64; 2052], n: u64) -> bool
 
 // No two holds of different tasks conflict.
 pub fn are_compatible(s: &[u64], n: u64) -> bool
-    requires { ⌜ (words ≤ length (now s)) × (n ≤ 512) × ((i : ℕ) → i < 16 * (n + 1) → read (now s) SlotMark i ≡ held → IsHeld (read (now s)) i) ⌝ }
+    requires { ⌜ (words ≤ length (now s)) × (n ≤ mostObjects)
+        × ((i : ℕ) → i < 16 * (n + 1) → read (now s) SlotMark i ≡ held → IsHeld (read (now s)) i) ⌝ }
     ensures { λ r. ⌜ r ≡ test (each (16 * (n + 1)) (compatibleAt (read (now (s .entry))))) ⌝ }
 {
-    let mut row: [u64; 2052] = [0; 2052];
+    let mut row: [u64; CELLS] = [0; CELLS];
     are_compatible_by(s, &mut row, n)
 }

@@ -3,12 +3,13 @@
 ghost use mathlib.Core.Path.{_≡_};
 ghost use Prim.Native.Nat.{_≤_};
 ghost use lib.ListN.{length};
+ghost use Rattle.session.specs.Names.{mostObjects};
 ghost use Rattle.session.specs.Table.{read, words};
 ghost use Rattle.session.specs.declared.Field.the-variants.{Objects};
 ghost use Rattle.rules.specs.Formula.{test};
 ghost use Rattle.rules.specs.Sound.{sound, links, slots};
 ghost use Rattle.sound.specs.LinkOf.{Linked};
-ghost use Rattle.sound.specs.Whole.{Counted, Known, soundMemory, parts, linkedUp, uses, fromParts, fromOutputs, fromLinks, fromSlots};
+ghost use Rattle.sound.specs.RulesInOrder.{Counted, Known, soundMemory, parts, linkedUp, uses, fromParts, fromOutputs, fromLinks, fromSlots};
 use session::Field;
 use session::names;
 
@@ -23,7 +24,7 @@ mod unused;
 
 // The rules about objects by themselves, and that unused parts are zero. Internal: callers have shown the counts.
 fn are_parts(s: &[u64], n: u64) -> bool
-    requires { ⌜ (words ≤ length (now s)) × (n ≤ 512) × (n ≡ read (now s) Objects 0) ⌝ }
+    requires { ⌜ (words ≤ length (now s)) × (n ≤ mostObjects) × (n ≡ read (now s) Objects 0) ⌝ }
     ensures { λ r. ⌜ r ≡ test (parts (read (now (s .entry)))) ⌝ }
 {
     let null = reading::of_object(s, Field::Kind, 0) == 0;
@@ -36,7 +37,7 @@ fn are_linked_up(s: &[u64], n: u64, m: u64) -> bool
     requires { ⌜ (words ≤ length (now s)) × Counted (read (now s)) n m × Linked (read (now s)) ⌝ }
     ensures { λ r. ⌜ r ≡ test (linkedUp (read (now (s .entry)))) ⌝ }
 {
-    let mut row: [u16; 8208] = [0; 8208];
+    let mut row: [u16; names::SLOT_PLACES] = [0; names::SLOT_PLACES];
     slots::note_links(s, &mut row, m);
     if slots::are_single(s, &row, m) {
         return slots::are_slots(s, &row, n);
@@ -114,7 +115,7 @@ fn is_sound_session(s: &[u64]) -> bool
 pub fn is_sound(s: &[u64]) -> bool
     ensures { λ r. ⌜ r ≡ soundMemory (now (s .entry)) ⌝ }
 {
-    if s.len() < names::WORDS {
+    if s.len() < session::WORDS {
         return false;
     }
     is_sound_session(s)

@@ -2,6 +2,7 @@
 ghost use mathlib.Core.Path.{_≡_};
 ghost use Prim.Native.Nat.{_+_, _≤_};
 ghost use lib.ListN.{length};
+ghost use Rattle.session.specs.Names.{mostLinks};
 ghost use Rattle.session.specs.Table.{read, words};
 ghost use Rattle.rules.specs.Formula.{test, count, Formula.each};
 ghost use Rattle.rules.specs.Sound.{isLink};
@@ -53,7 +54,7 @@ fn is_link_or_null(s: &[u64], l: u64) -> bool
 }
 
 pub fn are_links(s: &[u64], n: u64) -> bool
-    requires { ⌜ (words ≤ length (now s)) × (n ≤ 2048) ⌝ }
+    requires { ⌜ (words ≤ length (now s)) × (n ≤ mostLinks) ⌝ }
     ensures { λ r. ⌜ r ≡ test (each (n + 1) (linkAt (read (now (s .entry))))) ⌝ }
 {
     let mut ok = true;
@@ -74,7 +75,7 @@ fn is_delivered(s: &[u64], l: u64) -> bool
 
 // How many links are delivered.
 pub fn count_delivered(s: &[u64], n: u64) -> u64
-    requires { ⌜ (words ≤ length (now s)) × (n ≤ 2048) ⌝ }
+    requires { ⌜ (words ≤ length (now s)) × (n ≤ mostLinks) ⌝ }
     ensures { λ r. ⌜ r ≡ count (n + 1) (isDelivered (read (now (s .entry)))) ⌝ }
 {
     let mut count: u64 = 0;

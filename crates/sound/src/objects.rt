@@ -2,6 +2,7 @@
 ghost use mathlib.Core.Path.{_≡_};
 ghost use Prim.Native.Nat.{_+_, _≤_};
 ghost use lib.ListN.{length};
+ghost use Rattle.session.specs.Names.{mostObjects};
 ghost use Rattle.session.specs.Table.{read, words};
 ghost use Rattle.rules.specs.Formula.{test, Formula.each};
 ghost use Rattle.rules.specs.Sound.{counts, templatePart, taskPart, eventPart, blockPart, roots};
@@ -10,6 +11,7 @@ use crate::places::is_payload;
 use reading::is_made;
 use reading::of_object;
 use reading::of_slot;
+use rules::event_types::is_event_type;
 use session::Field;
 use session::names;
 
@@ -61,8 +63,7 @@ pub fn event_part(s: &[u64], h: u64) -> bool
     let is = of_object(s, Field::Kind, h) == names::EVENT;
     let fired = (state == names::FIRED) | ((state == names::DESTROYED_FIRED) | (payload == 0));
     let counted = (tally <= names::TOP_TALLY) & ((kind == names::LATCH) | (tally == 0));
-    let typed = (1 <= kind)
-        & ((kind <= names::OUTPUT) & (is_payload(s, payload) & (fired & counted)));
+    let typed = is_event_type(kind) & (is_payload(s, payload) & (fired & counted));
     is & ((1 <= state) & ((state <= names::DESTROYED_FIRED) & typed))
         | !is & ((state == 0) & ((kind == 0) & ((payload == 0) & (tally == 0))))
 }
@@ -92,7 +93,7 @@ fn is_object(s: &[u64], h: u64) -> bool
 
 // Every object is of some kind, with that kind's fields in range and the others zero.
 pub fn are_objects(s: &[u64], n: u64) -> bool
-    requires { ⌜ (words ≤ length (now s)) × (n ≤ 512) ⌝ }
+    requires { ⌜ (words ≤ length (now s)) × (n ≤ mostObjects) ⌝ }
     ensures { λ r. ⌜ r ≡ test (each (n + 1) (object (read (now (s .entry))))) ⌝ }
 {
     let mut ok = true;
@@ -132,7 +133,7 @@ fn is_latch(s: &[u64], e: u64) -> bool
 
 // A fired latch has the count 0.
 pub fn are_latches(s: &[u64], n: u64) -> bool
-    requires { ⌜ (words ≤ length (now s)) × (n ≤ 512) ⌝ }
+    requires { ⌜ (words ≤ length (now s)) × (n ≤ mostObjects) ⌝ }
     ensures { λ r. ⌜ r ≡ test (each (n + 1) (latchAt (read (now (s .entry))))) ⌝ }
 {
     let mut ok = true;

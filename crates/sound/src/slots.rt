@@ -2,6 +2,7 @@
 ghost use mathlib.Core.Path.{_≡_};
 ghost use Prim.Native.Nat.{_+_, _<_, _≤_};
 ghost use lib.ListN.{length};
+ghost use Rattle.session.specs.Names.{mostObjects, mostLinks, slotPlaces};
 ghost use Rattle.session.specs.Table.{read, words};
 ghost use Rattle.session.specs.declared.Field.the-variants.{Links, LinkTarget, LinkSlot};
 ghost use Rattle.rules.specs.Formula.{test, Formula.each};
@@ -23,10 +24,10 @@ fn wide(l: u16) -> u64
 }
 
 // Notes link l at the slot that it leads to.
-fn note_link(s: &[u64], row: &mut [u16; 8208], l: u64)
-    requires { ⌜ (words ≤ length (now s)) × (1 ≤ l) × (read (now s) LinkTarget l ≤ 512) × (read (now s) LinkSlot l < 16)
-        × Row (now row) 8208 (lastLink (read (now s)) l) × (l ≤ 2048) ⌝ }
-    ensures { λ r. ⌜ Row (now (row .exit)) 8208 (lastLink (read (now (s .entry))) (l + 1)) ⌝ }
+fn note_link(s: &[u64], row: &mut [u16; names::SLOT_PLACES], l: u64)
+    requires { ⌜ (words ≤ length (now s)) × (1 ≤ l) × (read (now s) LinkTarget l ≤ mostObjects) × (read (now s) LinkSlot l < 16)
+        × Row (now row) slotPlaces (lastLink (read (now s)) l) × (l ≤ mostLinks) ⌝ }
+    ensures { λ r. ⌜ Row (now (row .exit)) slotPlaces (lastLink (read (now (s .entry))) (l + 1)) ⌝ }
 {
     let target = of_link(s, Field::LinkTarget, l);
     let slot = of_link(s, Field::LinkSlot, l);
@@ -37,9 +38,10 @@ fn note_link(s: &[u64], row: &mut [u16; 8208], l: u64)
 }
 
 // Notes each link at the slot that it leads to: for each slot of a task the last link that leads to it, or 0.
-pub fn note_links(s: &[u64], row: &mut [u16; 8208], n: u64)
-    requires { ⌜ (words ≤ length (now s)) × (n ≤ 2048) × (n ≡ read (now s) Links 0) × Low (read (now s)) × Row (now row) 8208 (λ p. 0) ⌝ }
-    ensures { λ r. ⌜ Row (now (row .exit)) 8208 (lastLink (read (now (s .entry))) (n + 1)) ⌝ }
+pub fn note_links(s: &[u64], row: &mut [u16; names::SLOT_PLACES], n: u64)
+    requires { ⌜ (words ≤ length (now s)) × (n ≤ mostLinks) × (n ≡ read (now s) Links 0) × Low (read (now s))
+        × Row (now row) slotPlaces (λ p. 0) ⌝ }
+    ensures { λ r. ⌜ Row (now (row .exit)) slotPlaces (lastLink (read (now (s .entry))) (n + 1)) ⌝ }
 {
     let mut l: u64 = 1;
     while l <= n {
@@ -49,9 +51,9 @@ pub fn note_links(s: &[u64], row: &mut [u16; 8208], n: u64)
 }
 
 // No later link leads to the slot of a task that link l leads to.
-fn is_single(s: &[u64], row: &[u16; 8208], l: u64) -> bool
-    requires { ⌜ (words ≤ length (now s)) × (1 ≤ l) × (read (now s) LinkTarget l ≤ 512) × (read (now s) LinkSlot l < 16)
-        × Row (now row) 8208 (lastLink (read (now s)) (read (now s) Links 0 + 1)) ⌝ }
+fn is_single(s: &[u64], row: &[u16; names::SLOT_PLACES], l: u64) -> bool
+    requires { ⌜ (words ≤ length (now s)) × (1 ≤ l) × (read (now s) LinkTarget l ≤ mostObjects) × (read (now s) LinkSlot l < 16)
+        × Row (now row) slotPlaces (lastLink (read (now s)) (read (now s) Links 0 + 1)) ⌝ }
     ensures { λ r. ⌜ r ≡ test (single (read (now (s .entry))) l) ⌝ }
 {
     let target = of_link(s, Field::LinkTarget, l);
@@ -64,9 +66,9 @@ fn is_single(s: &[u64], row: &[u16; 8208], l: u64) -> bool
 }
 
 // At most one link leads to a slot of a task.
-pub fn are_single(s: &[u64], row: &[u16; 8208], n: u64) -> bool
-    requires { ⌜ (words ≤ length (now s)) × (n ≤ 2048) × (n ≡ read (now s) Links 0) × Low (read (now s))
-        × Row (now row) 8208 (lastLink (read (now s)) (read (now s) Links 0 + 1)) ⌝ }
+pub fn are_single(s: &[u64], row: &[u16; names::SLOT_PLACES], n: u64) -> bool
+    requires { ⌜ (words ≤ length (now s)) × (n ≤ mostLinks) × (n ≡ read (now s) Links 0) × Low (read (now s))
+        × Row (now row) slotPlaces (lastLink (read (now s)) (read (now s) Links 0 + 1)) ⌝ }
     ensures { λ r. ⌜ r ≡ test (each (n + 1) (single (read (now (s .entry))))) ⌝ }
 {
     let mut ok = true;
@@ -80,7 +82,7 @@ pub fn are_single(s: &[u64], row: &[u16; 8208], n: u64) -> bool
 
 // Slot j of task t, to which link m leads, is unsatisfied exactly if that link is not delivered.
 fn is_linked_by(s: &[u64], m: u64, t: u64, j: u64) -> bool
-    requires { ⌜ (words ≤ length (now s)) × (t ≤ 512) × (j < 16) ⌝ }
+    requires { ⌜ (words ≤ length (now s)) × (t ≤ mostObjects) × (j < 16) ⌝ }
     ensures { λ r. ⌜ r ≡ test (linkedBy (read (now (s .entry))) m t j) ⌝ }
 {
     let empty = of_slot(s, Field::SlotMark, t * 16 + j) == 0;
@@ -91,7 +93,7 @@ fn is_linked_by(s: &[u64], m: u64, t: u64, j: u64) -> bool
 
 // A satisfied slot with a delivered link has that source's payload.
 fn is_paid_by(s: &[u64], m: u64, t: u64, j: u64) -> bool
-    requires { ⌜ (words ≤ length (now s)) × (t ≤ 512) × (j < 16) ⌝ }
+    requires { ⌜ (words ≤ length (now s)) × (t ≤ mostObjects) × (j < 16) ⌝ }
     ensures { λ r. ⌜ r ≡ test (paidBy (read (now (s .entry))) m t j) ⌝ }
 {
     let payload = of_slot(s, Field::SlotPayload, t * 16 + j);
@@ -102,7 +104,7 @@ fn is_paid_by(s: &[u64], m: u64, t: u64, j: u64) -> bool
 }
 
 fn is_claimed_by(s: &[u64], m: u64, t: u64, j: u64) -> bool
-    requires { ⌜ (words ≤ length (now s)) × (t ≤ 512) × (j < 16) ⌝ }
+    requires { ⌜ (words ≤ length (now s)) × (t ≤ mostObjects) × (j < 16) ⌝ }
     ensures { λ r. ⌜ r ≡ test (claimedBy (read (now (s .entry))) m t j) ⌝ }
 {
     let mode = of_slot(s, Field::SlotMode, t * 16 + j);
@@ -114,7 +116,7 @@ fn is_claimed_by(s: &[u64], m: u64, t: u64, j: u64) -> bool
 }
 
 fn is_unclaimed_by(s: &[u64], m: u64, t: u64, j: u64) -> bool
-    requires { ⌜ (words ≤ length (now s)) × (t ≤ 512) × (j < 16) ⌝ }
+    requires { ⌜ (words ≤ length (now s)) × (t ≤ mostObjects) × (j < 16) ⌝ }
     ensures { λ r. ⌜ r ≡ test (unclaimedBy (read (now (s .entry))) m t j) ⌝ }
 {
     let mode = of_slot(s, Field::SlotMode, t * 16 + j);
@@ -125,7 +127,7 @@ fn is_unclaimed_by(s: &[u64], m: u64, t: u64, j: u64) -> bool
 
 // Slot j of object h, to which link m leads, is as it should be.
 fn is_slot_by(s: &[u64], m: u64, h: u64, j: u64) -> bool
-    requires { ⌜ (words ≤ length (now s)) × (h ≤ 512) × (j < 16) ⌝ }
+    requires { ⌜ (words ≤ length (now s)) × (h ≤ mostObjects) × (j < 16) ⌝ }
     ensures { λ r. ⌜ r ≡ test (slotBy (read (now (s .entry))) m h j) ⌝ }
 {
     let is_task = of_object(s, Field::Kind, h) == names::TASK;
@@ -136,16 +138,18 @@ fn is_slot_by(s: &[u64], m: u64, h: u64, j: u64) -> bool
     is_no_slot(s, h * 16 + j)
 }
 
-fn is_slot(s: &[u64], row: &[u16; 8208], h: u64, j: u64) -> bool
-    requires { ⌜ (words ≤ length (now s)) × (h ≤ 512) × (j < 16) × Row (now row) 8208 (lastLink (read (now s)) (read (now s) Links 0 + 1)) ⌝ }
+fn is_slot(s: &[u64], row: &[u16; names::SLOT_PLACES], h: u64, j: u64) -> bool
+    requires { ⌜ (words ≤ length (now s)) × (h ≤ mostObjects) × (j < 16)
+        × Row (now row) slotPlaces (lastLink (read (now s)) (read (now s) Links 0 + 1)) ⌝ }
     ensures { λ r. ⌜ r ≡ test (slotAt (read (now (s .entry))) h j) ⌝ }
 {
     let i = (h * 16 + j) as usize;
     is_slot_by(s, wide(row[i]), h, j)
 }
 
-fn are_slots_of(s: &[u64], row: &[u16; 8208], h: u64) -> bool
-    requires { ⌜ (words ≤ length (now s)) × (h ≤ 512) × Row (now row) 8208 (lastLink (read (now s)) (read (now s) Links 0 + 1)) ⌝ }
+fn are_slots_of(s: &[u64], row: &[u16; names::SLOT_PLACES], h: u64) -> bool
+    requires { ⌜ (words ≤ length (now s)) × (h ≤ mostObjects)
+        × Row (now row) slotPlaces (lastLink (read (now s)) (read (now s) Links 0 + 1)) ⌝ }
     ensures { λ r. ⌜ r ≡ test (slotsAt (read (now (s .entry))) h) ⌝ }
 {
     let mut ok = true;
@@ -158,8 +162,9 @@ fn are_slots_of(s: &[u64], row: &[u16; 8208], h: u64) -> bool
 }
 
 // Every slot is as it should be.
-pub fn are_slots(s: &[u64], row: &[u16; 8208], n: u64) -> bool
-    requires { ⌜ (words ≤ length (now s)) × (n ≤ 512) × Row (now row) 8208 (lastLink (read (now s)) (read (now s) Links 0 + 1)) ⌝ }
+pub fn are_slots(s: &[u64], row: &[u16; names::SLOT_PLACES], n: u64) -> bool
+    requires { ⌜ (words ≤ length (now s)) × (n ≤ mostObjects)
+        × Row (now row) slotPlaces (lastLink (read (now s)) (read (now s) Links 0 + 1)) ⌝ }
     ensures { λ r. ⌜ r ≡ test (each (n + 1) (slotsAt (read (now (s .entry))))) ⌝ }
 {
     let mut ok = true;

@@ -2,14 +2,16 @@
 ghost use mathlib.Core.Path.{_≡_};
 ghost use Prim.Native.Nat.{ℕ, _+_, _<_, _≤_};
 ghost use lib.ListN.{length};
+ghost use Rattle.session.specs.Names.{mostObjects};
 ghost use Rattle.session.specs.Table.{read, words};
 ghost use Rattle.session.specs.declared.Field.the-variants.{TaskSlots};
 ghost use Rattle.rules.specs.Formula.{test, Formula.each};
 ghost use Rattle.rules.specs.Reading.{busy};
 ghost use Rattle.ancestors.specs.Above.{Shows};
 ghost use Rattle.rules.specs.Sound.{creator, outputOf};
-ghost use Rattle.sound.specs.Bodies.{creatorAt, isFull, holding, stateAt, outputAt, outputState};
+ghost use Rattle.sound.specs.Bodies.{creatorAt, holding, stateAt, outputAt, outputState};
 use crate::places::previous;
+use reading::is_full;
 use reading::is_made;
 use reading::of_object;
 use reading::of_slot;
@@ -36,7 +38,7 @@ fn has_creator(s: &[u64], h: u64) -> bool
 
 // Every task but main has a creator, a lower task that is running or ended.
 pub fn are_creators(s: &[u64], n: u64) -> bool
-    requires { ⌜ (words ≤ length (now s)) × (n ≤ 512) ⌝ }
+    requires { ⌜ (words ≤ length (now s)) × (n ≤ mostObjects) ⌝ }
     ensures { λ r. ⌜ r ≡ test (each (n + 1) (creatorAt (read (now (s .entry))))) ⌝ }
 {
     let mut ok = true;
@@ -48,30 +50,9 @@ pub fn are_creators(s: &[u64], n: u64) -> bool
     ok
 }
 
-fn is_satisfied(s: &[u64], t: u64, j: u64) -> bool
-    requires { ⌜ (words ≤ length (now s)) × (t ≤ 512) × (j < 16) ⌝ }
-    ensures { λ r. ⌜ r ≡ test (isFull (read (now (s .entry))) t j) ⌝ }
-{
-    1 <= of_slot(s, Field::SlotMark, t * 16 + j)
-}
-
-// Each of a task's first n slots is satisfied.
-fn is_full(s: &[u64], t: u64, n: u64) -> bool
-    requires { ⌜ (words ≤ length (now s)) × (t ≤ 512) × (n ≤ 16) ⌝ }
-    ensures { λ r. ⌜ r ≡ test (each n (isFull (read (now (s .entry))) t)) ⌝ }
-{
-    let mut ok = true;
-    let mut j: u64 = 0;
-    while j < n {
-        ok = is_satisfied(s, t, j) & ok;
-        j += 1;
-    }
-    ok
-}
-
 // A slot is held only by a granted or running task, and by a granted one if it has a block.
 fn is_holding(s: &[u64], t: u64, j: u64) -> bool
-    requires { ⌜ (words ≤ length (now s)) × (t ≤ 512) × (j ≤ 16) ⌝ }
+    requires { ⌜ (words ≤ length (now s)) × (t ≤ mostObjects) × (j ≤ 16) ⌝ }
     ensures { λ r. ⌜ r ≡ test (holding (read (now (s .entry))) t j) ⌝ }
 {
     let state = of_object(s, Field::TaskState, t);
@@ -84,7 +65,7 @@ fn is_holding(s: &[u64], t: u64, j: u64) -> bool
 }
 
 fn are_holding(s: &[u64], t: u64, n: u64) -> bool
-    requires { ⌜ (words ≤ length (now s)) × (t ≤ 512) × (n ≤ 16) ⌝ }
+    requires { ⌜ (words ≤ length (now s)) × (t ≤ mostObjects) × (n ≤ 16) ⌝ }
     ensures { λ r. ⌜ r ≡ test (each n (holding (read (now (s .entry))) t)) ⌝ }
 {
     let mut ok = true;
@@ -98,19 +79,19 @@ fn are_holding(s: &[u64], t: u64, n: u64) -> bool
 
 // A task's state agrees with its slots.
 fn is_state(s: &[u64], t: u64) -> bool
-    requires { ⌜ (words ≤ length (now s)) × (t ≤ 512) × (read (now s) TaskSlots t ≤ 16) ⌝ }
+    requires { ⌜ (words ≤ length (now s)) × (t ≤ mostObjects) × (read (now s) TaskSlots t ≤ 16) ⌝ }
     ensures { λ r. ⌜ r ≡ test (stateAt (read (now (s .entry))) t) ⌝ }
 {
     let n = of_object(s, Field::TaskSlots, t);
     let state = of_object(s, Field::TaskState, t);
-    let full = is_full(s, t, n);
+    let full = is_full(s, t);
     let settled = (names::RESOLVED <= state) & (state <= names::ENDED);
     let agrees = (!(state == names::WAITING) | !full) & ((!settled | full) & are_holding(s, t, n));
     !(of_object(s, Field::Kind, t) == names::TASK) | agrees
 }
 
 pub fn are_states(s: &[u64], n: u64) -> bool
-    requires { ⌜ (words ≤ length (now s)) × (n ≤ 512) × ((h : ℕ) → h < n + 1 → read (now s) TaskSlots h ≤ 16) ⌝ }
+    requires { ⌜ (words ≤ length (now s)) × (n ≤ mostObjects) × ((h : ℕ) → h < n + 1 → read (now s) TaskSlots h ≤ 16) ⌝ }
     ensures { λ r. ⌜ r ≡ test (each (n + 1) (stateAt (read (now (s .entry))))) ⌝ }
 {
     let mut ok = true;
@@ -123,16 +104,16 @@ pub fn are_states(s: &[u64], n: u64) -> bool
 }
 
 // Whether some descendant of a task is live, by the marks.
-fn is_busy(s: &[u64], marks: &[u64; 513], t: u64) -> bool
-    requires { ⌜ (words ≤ length (now s)) × (t ≤ 512) × Shows (now marks) (busy (read (now s))) ⌝ }
+fn is_busy(s: &[u64], marks: &[u64; names::OBJECT_PLACES], t: u64) -> bool
+    requires { ⌜ (words ≤ length (now s)) × (t ≤ mostObjects) × Shows (now marks) (busy (read (now s))) ⌝ }
     ensures { λ r. ⌜ r ≡ test (busy (read (now (s .entry))) t) ⌝ }
 {
     marks[t as usize] == 1
 }
 
 // The output event of task t is fired and destroyed as the task's state and its descendants want.
-fn does_output_agree(s: &[u64], marks: &[u64; 513], t: u64) -> bool
-    requires { ⌜ (words ≤ length (now s)) × (t ≤ 512) × Shows (now marks) (busy (read (now s))) ⌝ }
+fn does_output_agree(s: &[u64], marks: &[u64; names::OBJECT_PLACES], t: u64) -> bool
+    requires { ⌜ (words ≤ length (now s)) × (t ≤ mostObjects) × Shows (now marks) (busy (read (now s))) ⌝ }
     ensures { λ r. ⌜ r ≡ test (outputState (read (now (s .entry))) t) ⌝ }
 {
     let state = of_object(s, Field::TaskState, t);
@@ -147,8 +128,8 @@ fn does_output_agree(s: &[u64], marks: &[u64; 513], t: u64) -> bool
         & ((!cut | gone) & (!gone | cut) & !(event == names::DESTROYED_FIRED))
 }
 
-fn is_output_of(s: &[u64], marks: &[u64; 513], t: u64) -> bool
-    requires { ⌜ (words ≤ length (now s)) × (t ≤ 512) × Shows (now marks) (busy (read (now s))) ⌝ }
+fn is_output_of(s: &[u64], marks: &[u64; names::OBJECT_PLACES], t: u64) -> bool
+    requires { ⌜ (words ≤ length (now s)) × (t ≤ mostObjects) × Shows (now marks) (busy (read (now s))) ⌝ }
     ensures { λ r. ⌜ r ≡ test (outputOf (read (now (s .entry))) t) ⌝ }
 {
     let kind = of_object(s, Field::EventType, t + 1);
@@ -156,8 +137,8 @@ fn is_output_of(s: &[u64], marks: &[u64; 513], t: u64) -> bool
     is_made(s, t + 1) & ((of_object(s, Field::Kind, t + 1) == names::EVENT) & agrees)
 }
 
-fn has_output(s: &[u64], marks: &[u64; 513], h: u64) -> bool
-    requires { ⌜ (words ≤ length (now s)) × (h ≤ 512) × Shows (now marks) (busy (read (now s))) ⌝ }
+fn has_output(s: &[u64], marks: &[u64; names::OBJECT_PLACES], h: u64) -> bool
+    requires { ⌜ (words ≤ length (now s)) × (h ≤ mostObjects) × Shows (now marks) (busy (read (now s))) ⌝ }
     ensures { λ r. ⌜ r ≡ test (outputAt (read (now (s .entry))) h) ⌝ }
 {
     let kind = of_object(s, Field::Kind, h);
@@ -170,8 +151,8 @@ fn has_output(s: &[u64], marks: &[u64; 513], h: u64) -> bool
 }
 
 // An output event follows its task, and agrees with it.
-pub fn are_outputs(s: &[u64], marks: &[u64; 513], n: u64) -> bool
-    requires { ⌜ (words ≤ length (now s)) × (n ≤ 512) × Shows (now marks) (busy (read (now s))) ⌝ }
+pub fn are_outputs(s: &[u64], marks: &[u64; names::OBJECT_PLACES], n: u64) -> bool
+    requires { ⌜ (words ≤ length (now s)) × (n ≤ mostObjects) × Shows (now marks) (busy (read (now s))) ⌝ }
     ensures { λ r. ⌜ r ≡ test (each (n + 1) (outputAt (read (now (s .entry))))) ⌝ }
 {
     let mut ok = true;

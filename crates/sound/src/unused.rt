@@ -2,6 +2,7 @@
 ghost use mathlib.Core.Path.{_≡_};
 ghost use Prim.Native.Nat.{_≤_};
 ghost use lib.ListN.{length};
+ghost use Rattle.session.specs.Names.{mostObjects, objectPlaces, linkPlaces};
 ghost use Rattle.session.specs.Table.{read, words};
 ghost use Rattle.rules.specs.Formula.{test, Formula.each};
 ghost use Rattle.rules.specs.Sound.{noLink, noSlot, unused};
@@ -14,6 +15,7 @@ use reading::of_link;
 use reading::of_object;
 use reading::of_slot;
 use session::Field;
+use session::names;
 
 pub fn is_no_slot(s: &[u64], i: u64) -> bool
     requires { ⌜ words ≤ length (now s) ⌝ }
@@ -24,7 +26,7 @@ pub fn is_no_slot(s: &[u64], i: u64) -> bool
 }
 
 fn are_no_slots(s: &[u64], h: u64) -> bool
-    requires { ⌜ (words ≤ length (now s)) × (h ≤ 512) ⌝ }
+    requires { ⌜ (words ≤ length (now s)) × (h ≤ mostObjects) ⌝ }
     ensures { λ r. ⌜ r ≡ test (each 16 (noSlotOf (read (now (s .entry))) h)) ⌝ }
 {
     let mut ok = true;
@@ -37,7 +39,7 @@ fn are_no_slots(s: &[u64], h: u64) -> bool
 }
 
 fn is_empty(s: &[u64], h: u64) -> bool
-    requires { ⌜ (words ≤ length (now s)) × (h ≤ 512) ⌝ }
+    requires { ⌜ (words ≤ length (now s)) × (h ≤ mostObjects) ⌝ }
     ensures { λ r. ⌜ r ≡ test (emptyObject (read (now (s .entry))) h) ⌝ }
 {
     let parts = event_part(s, h) & (block_part(s, h) & are_no_slots(s, h));
@@ -45,7 +47,7 @@ fn is_empty(s: &[u64], h: u64) -> bool
 }
 
 fn is_unused(s: &[u64], h: u64) -> bool
-    requires { ⌜ (words ≤ length (now s)) × (h ≤ 512) ⌝ }
+    requires { ⌜ (words ≤ length (now s)) × (h ≤ mostObjects) ⌝ }
     ensures { λ r. ⌜ r ≡ test (unusedObject (read (now (s .entry))) h) ⌝ }
 {
     if h <= session::get(s, Field::Objects, 0) {
@@ -56,11 +58,11 @@ fn is_unused(s: &[u64], h: u64) -> bool
 
 fn are_unused(s: &[u64]) -> bool
     requires { ⌜ words ≤ length (now s) ⌝ }
-    ensures { λ r. ⌜ r ≡ test (each 513 (unusedObject (read (now (s .entry))))) ⌝ }
+    ensures { λ r. ⌜ r ≡ test (each objectPlaces (unusedObject (read (now (s .entry))))) ⌝ }
 {
     let mut ok = true;
     let mut h: u64 = 0;
-    while h < 513 {
+    while h <= names::MOST_OBJECTS {
         ok = is_unused(s, h) & ok;
         h += 1;
     }
@@ -85,11 +87,11 @@ fn is_unused_link(s: &[u64], l: u64) -> bool
 
 fn are_unused_links(s: &[u64]) -> bool
     requires { ⌜ words ≤ length (now s) ⌝ }
-    ensures { λ r. ⌜ r ≡ test (each 2049 (unusedLink (read (now (s .entry))))) ⌝ }
+    ensures { λ r. ⌜ r ≡ test (each linkPlaces (unusedLink (read (now (s .entry))))) ⌝ }
 {
     let mut ok = true;
     let mut l: u64 = 0;
-    while l < 2049 {
+    while l <= names::MOST_LINKS {
         ok = is_unused_link(s, l) & ok;
         l += 1;
     }

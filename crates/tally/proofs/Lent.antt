@@ -40,14 +40,20 @@ module _ {M : Type 1} (𝓤 : URA M) (H : Heap 𝓤) (A : Atoms 𝓤) (W : Given
   pub typed : (t : Tally) (v : Val) → Is R t (v ∷ []) → Tᵇ (hasTy T′.mir v) × WT v
   typed t v is = LL.lawful T.the-type T′.the-laws 𝓤 H A W .typed t _ is .0
 
-  pub tally-in : (t : Tally) → Is R t (vals t) → (b o : ℕ) → ent 𝓤 (sem 𝓤 H A (fat fullShare T′.mir b o (val t))) (sem 𝓤 H A (partAt R fullShare t b o))
+  pub tally-in : (t : Tally) → Is R t (vals t) → (b o : ℕ)
+      → ent 𝓤 (sem 𝓤 H A (fat fullShare T′.mir b o (val t))) (sem 𝓤 H A (partAt R fullShare t b o))
   unfolding partOf
   tally-in t is b o =
-      qed W (‵ (fat fullShare T′.mir b o (val t)) ∷ []) ∵ use1 W (‵ (cellAt fullShare (R .mir) (vals t) b o)) (W .laws .at-raw fullShare T′.mir b o (val t)) $
-      owned ! R (Is R) makes t _ is $ move ! (1 ∷ 0 ∷ []) $ fjoin ! $ fpack ! (List Val) (λ us. fsep (cellAt fullShare (R .mir) us b o) (R .own t us)) (vals t) $ done !
+      qed W (‵ (fat fullShare T′.mir b o (val t)) ∷ []) ∵
+      use1 W (‵ (cellAt fullShare (R .mir) (vals t) b o)) (W .laws .at-raw fullShare T′.mir b o (val t)) $
+      owned ! R (Is R) makes t _ is $ move ! (1 ∷ 0 ∷ []) $ fjoin ! $
+      fpack ! (List Val) (λ us. fsep (cellAt fullShare (R .mir) us b o) (R .own t us)) (vals t) $ done !
 
-  pub tally-out : (t : Tally) (b o : ℕ) → ent 𝓤 (sem 𝓤 H A (partAt R fullShare t b o)) (guard 𝓤 (Is R t (vals t)) (sem 𝓤 H A (fat fullShare T′.mir b o (val t))))
+  pub tally-out : (t : Tally) (b o : ℕ)
+      → ent 𝓤 (sem 𝓤 H A (partAt R fullShare t b o)) (guard 𝓤 (Is R t (vals t)) (sem 𝓤 H A (fat fullShare T′.mir b o (val t))))
   unfolding partOf
   tally-out t b o =
-      qed W (‵ (partAt R fullShare t b o) ∷ []) ∵ fpick ! (λ vs. fsplit ! $ spelt ! R (Is R) (shows 𝓤 H A R) vals tells fullShare t vs b o $ move ! (1 ∷ []) $
-      peeks ! R (Is R) (shows 𝓤 H A R) t (vals t) (λ is. drop ! $ use1 W (‵ (fat fullShare T′.mir b o (val t))) (W .laws .raw-at fullShare T′.mir b o (val t)) $ check ! is $ done !))
+      qed W (‵ (partAt R fullShare t b o) ∷ []) ∵
+      fpick ! (λ vs. fsplit ! $ spelt ! R (Is R) (shows 𝓤 H A R) vals tells fullShare t vs b o $ move ! (1 ∷ []) $
+      peeks ! R (Is R) (shows 𝓤 H A R) t (vals t) (λ is. drop ! $
+      use1 W (‵ (fat fullShare T′.mir b o (val t))) (W .laws .raw-at fullShare T′.mir b o (val t)) $ check ! is $ done !))

@@ -49,7 +49,8 @@ sum-grows a b fits = choose-case (λ n. a ≤ n) (a + b ≼ most) (a + b) most (
 
 -- While each count has room, each is the sum.
 pub raise-is : (t c : Tally)
-    → t .records + c .records ≤ most → t .refused + c .refused ≤ most → t .starts + c .starts ≤ most → t .dropped + c .dropped ≤ most
+    → t .records + c .records ≤ most → t .refused + c .refused ≤ most → t .starts + c .starts ≤ most
+    → t .dropped + c .dropped ≤ most
     → raise t c ≡ each (λ a b. a + b) t c
 unfolding raise
 raise-is t c records refused starts dropped i = record {
@@ -60,13 +61,21 @@ raise-is t c records refused starts dropped i = record {
 }
 
 -- No count of a tally raised is past the largest.
-pub raise-fits : (t c : Tally) → (raise t c .records ≤ most) × (raise t c .refused ≤ most) × (raise t c .starts ≤ most) × (raise t c .dropped ≤ most)
+pub raise-fits : (t c : Tally)
+    → (raise t c .records ≤ most) × (raise t c .refused ≤ most) × (raise t c .starts ≤ most) × (raise t c .dropped ≤ most)
 unfolding raise
-raise-fits t c = (sum-fits (t .records) (c .records), sum-fits (t .refused) (c .refused), sum-fits (t .starts) (c .starts), sum-fits (t .dropped) (c .dropped))
+raise-fits t c = (
+  sum-fits (t .records) (c .records),
+  sum-fits (t .refused) (c .refused),
+  sum-fits (t .starts) (c .starts),
+  sum-fits (t .dropped) (c .dropped),
+)
 
 -- A tally whose counts are such sums is the tally raised.
 pub raise-each : (t c : Tally) (a b d e : ℕ)
-    → a ≡ sumTo (t .records) (c .records) → b ≡ sumTo (t .refused) (c .refused) → d ≡ sumTo (t .starts) (c .starts) → e ≡ sumTo (t .dropped) (c .dropped)
+    → a ≡ sumTo (t .records) (c .records) → b ≡ sumTo (t .refused) (c .refused) → d ≡ sumTo (t .starts) (c .starts)
+    → e ≡ sumTo (t .dropped) (c .dropped)
     → record { records = a; refused = b; starts = d; dropped = e } ≡ raise t c
 unfolding raise
-raise-each t c a b d e records refused starts dropped i = record { records = records i; refused = refused i; starts = starts i; dropped = dropped i }
+raise-each t c a b d e records refused starts dropped i =
+    record { records = records i; refused = refused i; starts = starts i; dropped = dropped i }

@@ -8,10 +8,11 @@ use Rattle.rules.specs.Formula.{choose, Formula._≐_, Formula._≼_}
 use Rattle.text.specs.Text.{newline, badLine, sheetOf}
 use Rattle.text.specs.declared.printed.Printed.{Printed}
 
--- Bytes to be printed, put at the start of lent memory which has the room asked for, and how many they are. Under check 1, where the
--- memory is too short, refusal 1, and the memory is as it was.
+-- Bytes to be printed, put at the start of lent memory which has the room asked for, and how many they are. Under check 1, where
+-- the memory is too short, refusal 1, and the memory is as it was.
 unfoldable pub printed : ℕ → List ℕ → List ℕ → Printed
-printed room bytes out = choose (room ≼ length out) (record { refused = 0; used = length bytes }) (record { refused = 1; used = 0 })
+printed room bytes out =
+    choose (room ≼ length out) (record { refused = 0; used = length bytes }) (record { refused = 1; used = 0 })
 
 unfoldable pub printedMemory : ℕ → List ℕ → List ℕ → List ℕ
 printedMemory room bytes out = choose (room ≼ length out) (splice out 0 bytes) out
@@ -26,7 +27,8 @@ lineText line = beforeNumber ++ decimal line ++ newline ∷ []
 -- "more than 262144 bytes" and a newline
 abbrev pub tooLong : List ℕ
 tooLong =
-    109 ∷ 111 ∷ 114 ∷ 101 ∷ 32 ∷ 116 ∷ 104 ∷ 97 ∷ 110 ∷ 32 ∷ 50 ∷ 54 ∷ 50 ∷ 49 ∷ 52 ∷ 52 ∷ 32 ∷ 98 ∷ 121 ∷ 116 ∷ 101 ∷ 115 ∷ 10 ∷ []
+    109 ∷ 111 ∷ 114 ∷ 101 ∷ 32 ∷ 116 ∷ 104 ∷ 97 ∷ 110 ∷ 32 ∷ 50 ∷ 54 ∷ 50 ∷ 49 ∷ 52 ∷ 52 ∷ 32 ∷ 98 ∷ 121 ∷ 116 ∷ 101 ∷ 115 ∷ 10 ∷
+    []
 
 -- The longest text that is turned into a sheet.
 abbrev pub most : ℕ

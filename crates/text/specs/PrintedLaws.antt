@@ -47,7 +47,8 @@ module _ (room : ℕ) (bytes out : List ℕ) where
     all-memory = choose-yes (room ≼ length out) _ _ enough
 
     pub printed-put : (next : ℕ) (after : List ℕ) → Put out 0 bytes next after
-        → (_≡_ {A = Printed} (record { refused = 0; used = next }) (printed room bytes out)) × (after ≡ printedMemory room bytes out)
+        → (_≡_ {A = Printed} (record { refused = 0; used = next }) (printed room bytes out))
+        × (after ≡ printedMemory room bytes out)
     printed-put next after p =
         (ap (λ (n : ℕ). record { refused = 0; used = n }) (p .place ∙ zero-add _) ∙ sym all-printed, p .written ∙ sym all-memory)
 
@@ -76,7 +77,8 @@ line-most m line (b ∷ bs) = go (isBad (after m b)) (line-most (after m b) (lin
         → pick x line (badLineFrom (after m b) (lineAfter line b) bs) ≤ line + suc (length bs)
     go true h = omega arith
     go false h =
-        let one : lineAfter line b ≤ line + 1 = choose-case (λ n. n ≤ line + 1) (b ≐ 10) (line + 1) line (λ _. omega arith) (λ _. omega arith) in
+        let one : lineAfter line b ≤ line + 1 =
+        choose-case (λ n. n ≤ line + 1) (b ≐ 10) (line + 1) line (λ _. omega arith) (λ _. omega arith) in
         omega arith
 
 pub line-length : (line : ℕ) → length (lineText line) ≡ 5 + length (decimal line) + 1

@@ -9,7 +9,8 @@ use Rattle.number.specs.Encode.{Groups, groups, encode-one, encode-several}
 use Rattle.number.specs.Laws.{length-some}
 use Rattle.rules.specs.Formula.{Formula._≼_}
 use Rattle.rules.specs.FormulaLaws.{choose-case}
-use Rattle.text.specs.Text.{kindOf, longer, afterWord, afterComment, after, isWord, ended, numbersFrom, numbers, encodeAll, sheetOf}
+use Rattle.text.specs.Text.{kindOf, longer, afterWord, afterComment, after, isWord, ended, numbersFrom, numbers, encodeAll}
+use Rattle.text.specs.Text.{sheetOf}
 use Rattle.text.specs.TextLaws.{encodeAll-none, encodeAll-one, encodeAll-append}
 use Rattle.text.specs.declared.Kind.{Kind}
 use Rattle.text.specs.declared.Kind.the-variants.{Newline, Blank, Hash, Digit, Other}
@@ -54,7 +55,8 @@ unfolding kindOf
 small b =
     choose-case Small _ Newline _ (λ _. tt)
     (λ _. choose-case Small _ Blank _ (λ _. tt)
-    (λ _. choose-case Small _ Hash _ (λ _. tt) (λ _. choose-case Small _ (Digit (b - 48)) Other (λ h. omega (arith, h .1)) (λ _. tt))))
+    (λ _. choose-case Small _ Hash _ (λ _. tt)
+    (λ _. choose-case Small _ (Digit (b - 48)) Other (λ h. omega (arith, h .1)) (λ _. tt))))
 
 -- With each byte what ended, and the credit that is left, are covered by the credit before and one byte more.
 abbrev Covered : Mode → Mode → Type 0
@@ -108,8 +110,10 @@ from-covered : (m : Mode) (text : List ℕ) → length (encodeAll (numbersFrom m
 unfolding numbersFrom
 from-covered m [] = omega (arith, end-covered m)
 from-covered m (b ∷ bs) =
-    let e : length (encodeAll (numbersFrom m (b ∷ bs))) ≡ length (encodeAll (ended m (after m b))) + length (encodeAll (numbersFrom (after m b) bs)) =
-    ap length (encodeAll-append (ended m (after m b)) (numbersFrom (after m b) bs)) ∙ length-append (encodeAll (ended m (after m b))) _ in
+    let e : length (encodeAll (numbersFrom m (b ∷ bs)))
+    ≡ length (encodeAll (ended m (after m b))) + length (encodeAll (numbersFrom (after m b) bs)) =
+    ap length (encodeAll-append (ended m (after m b)) (numbersFrom (after m b) bs))
+    ∙ length-append (encodeAll (ended m (after m b))) _ in
     omega (arith, e, covered m b, from-covered (after m b) bs)
 
 pub sheet-short : (text : List ℕ) → length (sheetOf text) ≤ length text

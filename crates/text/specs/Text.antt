@@ -1,5 +1,5 @@
--- A sheet typed as text: "numbers in decimal, spaces, one record a line, `#` starts a comment". Where a line ends matters only to a
--- comment and to the line number of a word that is no number: so a record may also go over several lines.
+-- A sheet typed as text: "numbers in decimal, spaces, one record a line, `#` starts a comment". Where a line ends matters only to
+-- a comment and to the line number of a word that is no number: so a record may also go over several lines.
 use Prim.Native.Nat.{ℕ, _+_, _-_, _*_}
 use mathlib.Core.Bool.{Bool, true, false}
 use mathlib.Core.List.{List, [], _∷_, _++_}
@@ -63,8 +63,8 @@ isWord (Word v) = true
 isWord Comment = false
 isWord Bad = false
 
--- The value of a word that ended between two modes, if one did: words never touch, so a word goes on exactly if the second mode is a
--- word too.
+-- The value of a word that ended between two modes, if one did: words
+-- never touch, so a word goes on exactly if the second mode is a word too.
 unfoldable pub ended : Mode → Mode → List ℕ
 ended Between m = []
 ended (Word v) m = pick (isWord m) [] (v ∷ [])

@@ -12,7 +12,8 @@ use Rattle.number.specs.Number.{limit32, encode, splice}
 use Rattle.number.specs.Splice.{splice-none}
 use Rattle.rules.specs.Formula.{choose, test, Formula._≐_, Formula._≼_, Formula._and_, Formula._or_}
 use Rattle.rules.specs.FormulaLaws.{Case, decide, choose-yes, choose-no, Case.it-does, Case.it-does-not}
-use Rattle.text.specs.Text.{kindOf, longer, after, isBad, isWord, ended, numbersFrom, numbers, lineAfter, badLineFrom, badLine, encodeAll, sheetOf, given, answer, memory}
+use Rattle.text.specs.Text.{kindOf, longer, after, isBad, isWord, ended, numbersFrom, numbers, lineAfter, badLineFrom}
+use Rattle.text.specs.Text.{badLine, encodeAll, sheetOf, given, answer, memory}
 use Rattle.text.specs.declared.Kind.the-variants.{Newline, Blank, Hash, Digit, Other}
 use Rattle.text.specs.declared.Mode.{Mode}
 use Rattle.text.specs.declared.Mode.the-variants.{Between, Word, Bad}
@@ -107,7 +108,9 @@ module _ (text : List ℕ) (m : Mode) (i : ℕ) (h : i < length text) where
   pub bytes-step : (then : Mode)
       → then ≡ after m here
       → encodeAll (numbersFrom m (drop i text)) ≡ encodeAll (ended m then) ++ encodeAll (numbersFrom then (drop (i + 1) text))
-  bytes-step then e = rw e (ap encodeAll numbers-step ∙ encodeAll-append (ended m (after m here)) (numbersFrom (after m here) (drop (i + 1) text)))
+  bytes-step then e =
+      rw e (ap encodeAll numbers-step
+      ∙ encodeAll-append (ended m (after m here)) (numbersFrom (after m here) (drop (i + 1) text)))
 
   pub length-step : (then : Mode)
       → then ≡ after m here

@@ -5,7 +5,8 @@ ghost use mathlib.Core.Path.{_≡_};
 ghost use Prim.Native.Nat.{_+_, _≤_};
 ghost use lib.ListN.{length};
 ghost use Rattle.number.specs.Number.{encode, splice};
-ghost use Rattle.text.specs.Text.{kindOf, longer, afterWord, afterComment, after, isBad, isWord, ended, encodeAll, sheetOf, badLine, answer, memory};
+ghost use Rattle.text.specs.Text.{kindOf, longer, afterWord, afterComment, after, isBad, isWord, ended};
+ghost use Rattle.text.specs.Text.{encodeAll, sheetOf, badLine, answer, memory};
 
 mod printed;
 

@@ -2,7 +2,8 @@
 use mathlib.Core.List.{[], _∷_}
 use mathlib.Core.Path.{_≡_, refl}
 use Rattle.rules.specs.Formula.{test}
-use Rattle.text.specs.Text.{kindOf, longer, afterWord, afterComment, after, isBad, isWord, ended, numbersFrom, numbers, lineAfter, badLineFrom, badLine}
+use Rattle.text.specs.Text.{kindOf, longer, afterWord, afterComment, after, isBad, isWord, ended, numbersFrom, numbers, lineAfter}
+use Rattle.text.specs.Text.{badLineFrom, badLine}
 
 -- The limit is a number, and one more is bad.
 -- "4294967295", "4294967295", "4294967296"

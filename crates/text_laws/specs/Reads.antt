@@ -13,12 +13,13 @@ use Rattle.decimal.specs.Decimal.{decimal}
 use Rattle.decimal.specs.DecimalLaws.{decimal-one, decimal-several}
 use Rattle.rules.specs.Formula.{Formula, choose, test, Formula._≐_}
 use Rattle.rules.specs.FormulaLaws.{Case, decide, choose-yes, choose-no, Case.it-does, Case.it-does-not}
-use Rattle.text.specs.Text.{kindOf, longer, afterWord, afterComment, after, isBad, isWord, ended, numbersFrom, lineAfter, badLineFrom}
+use Rattle.text.specs.Text.{kindOf, longer, afterWord, afterComment, after, isBad, isWord, ended, numbersFrom, lineAfter}
+use Rattle.text.specs.Text.{badLineFrom}
 use Rattle.text.specs.TextLaws.{kind-digit, longer-within}
 use Rattle.text.specs.declared.Kind.{Kind}
 use Rattle.text.specs.declared.Kind.the-variants.{Newline, Blank, Hash, Digit, Other}
 use Rattle.text.specs.declared.Mode.{Mode}
-use Rattle.text.specs.declared.Mode.the-variants.{Between, Word, Comment, Bad}
+use Rattle.text.specs.declared.Mode.the-variants.{Between, Word, Comment}
 
 pub data Leads : Mode → List ℕ → List ℕ → Mode → Type 0 where
   stay : {m : Mode} → Leads m [] [] m
@@ -32,7 +33,8 @@ pub leads-numbers : {m n : Mode} {bs vs : List ℕ} → Leads m bs vs n → numb
 unfolding numbersFrom
 leads-numbers stay = refl
 leads-numbers {m} {n} (byte b {bs} {vs} g p) =
-    ap (λ (ns : List ℕ). ended m (after m b) ++ ns) (leads-numbers p) ∙ sym (append-assoc (ended m (after m b)) vs (ended n Between))
+    ap (λ (ns : List ℕ). ended m (after m b) ++ ns) (leads-numbers p)
+    ∙ sym (append-assoc (ended m (after m b)) vs (ended n Between))
 
 pub leads-good : {m n : Mode} {bs vs : List ℕ} (line : ℕ) → Leads m bs vs n → badLineFrom m line bs ≡ 0
 unfolding badLineFrom
@@ -43,7 +45,8 @@ leads-good {m} line (byte b {bs} g p) = rw g (leads-good (lineAfter line b) p)
 pub leads-then : {l m n : Mode} {bs cs vs ws : List ℕ} → Leads l bs vs m → Leads m cs ws n → Leads l (bs ++ cs) (vs ++ ws) n
 leads-then stay q = q
 leads-then {l} {m} {n} {cs = cs} {ws = ws} (byte b {bs} {vs} g p) q =
-    subst (λ (ns : List ℕ). Leads l (b ∷ (bs ++ cs)) ns n) (sym (append-assoc (ended l (after l b)) vs ws)) (byte b g (leads-then p q))
+    subst (λ (ns : List ℕ). Leads l (b ∷ (bs ++ cs)) ns n) (sym (append-assoc (ended l (after l b)) vs ws))
+    (byte b g (leads-then p q))
 
 pub leads-byte : {m n : Mode} (b : ℕ) {vs : List ℕ} → after m b ≡ n → isBad n ≡ false → ended m n ≡ vs → Leads m (b ∷ []) vs n
 leads-byte {m} {n} b e g h =
@@ -63,7 +66,8 @@ one-digit v h =
     let same : 0 * 10 + v ≡ v = omega arith in
     rw (decimal-one v h) (leads-byte (v + 48) (digit-word 0 v h (omega arith) ∙ ap Word same) refl refl)
 
-several-digits : (v : ℕ) → 10 ≤ v → v ≤ limit32 → Leads Between (decimal (v / 10)) [] (Word (v / 10)) → Leads Between (decimal v) [] (Word v)
+several-digits : (v : ℕ) → 10 ≤ v → v ≤ limit32 → Leads Between (decimal (v / 10)) [] (Word (v / 10))
+    → Leads Between (decimal v) [] (Word v)
 unfolding after isBad ended isWord
 several-digits v h l p =
     let same : v / 10 * 10 + v % 10 ≡ v = omega arith in
@@ -74,7 +78,8 @@ decimal-below : (n v : ℕ) → v ≤ n → v ≤ limit32 → Leads Between (dec
 decimal-below zero v h l = one-digit v (omega arith)
 decimal-below (suc n) v h l = go (ltb v 10) refl (λ k. decimal-below n (v / 10) (omega arith) (omega arith))
   where
-    go : (b : Bool) → ltb v 10 ≡ b → (10 ≤ v → Leads Between (decimal (v / 10)) [] (Word (v / 10))) → Leads Between (decimal v) [] (Word v)
+    go : (b : Bool) → ltb v 10 ≡ b → (10 ≤ v → Leads Between (decimal (v / 10)) [] (Word (v / 10)))
+        → Leads Between (decimal v) [] (Word v)
     go true e tenth = one-digit v (ltb-true v 10 e)
     go false e tenth = several-digits v (ltb-false v 10 e) l (tenth (ltb-false v 10 e))
 
@@ -101,9 +106,12 @@ leads-end = leads-byte 10 refl refl refl
 -- A comment goes on while no newline comes.
 in-comment : (b : ℕ) → (b ≡ 10 → ⊥) → afterComment (kindOf b) ≡ Comment
 unfolding kindOf afterComment
-in-comment b n = ap afterComment (choose-no (b ≐ 10) Newline _ n) ∙ either _ Blank _ refl (either _ Hash _ refl (either _ (Digit (b - 48)) Other refl refl))
+in-comment b n =
+    ap afterComment (choose-no (b ≐ 10) Newline _ n)
+    ∙ either _ Blank _ refl (either _ Hash _ refl (either _ (Digit (b - 48)) Other refl refl))
   where
-    either : (f : Formula) (j k : Kind) → afterComment j ≡ Comment → afterComment k ≡ Comment → afterComment (choose f j k) ≡ Comment
+    either : (f : Formula) (j k : Kind) → afterComment j ≡ Comment → afterComment k ≡ Comment
+        → afterComment (choose f j k) ≡ Comment
     either f j k p q = go (decide f)
       where
         go : Case f → afterComment (choose f j k) ≡ Comment

@@ -8,22 +8,25 @@ use Rattle.number.specs.Number.{AreBytes, encode}
 use Rattle.rules.specs.declared.Operation.{Operation}
 use Rattle.rules.specs.Formula.{holds, test, not, Formula.each, Formula._≐_, Formula._≼_}
 use Rattle.rules.specs.FormulaLaws.{Case, decide, passed, choose-yes, choose-no, Case.it-does, Case.it-does-not}
-use Rattle.rules.specs.Step.{arg}
+use Rattle.rules.specs.Step.{arg, lastCode}
 use Rattle.record.specs.declared.Place.the-variants.{Behind, Refused}
-use Rattle.record.specs.Reading.{fieldCount, placed, recordAt}
+use Rattle.rules.specs.Arity.{fieldCount, nameOf}
+use Rattle.record.specs.Reading.{placed, recordAt}
 use Rattle.record.specs.Writing.{fieldBytes, recordBytes, isRecordable, within}
 use Rattle.record.specs.Laws.{record-forward}
-use Rattle.record.specs.Sheet.{Contents, stopped, followed, recordsFrom, recordsBytes, contents, headAt, headRefusal, firstRecord, sheetOf as sheetOfOperations}
+use Rattle.record.specs.Sheet.{Contents, stopped, recordsFrom, recordsBytes, contents, headAt, headRefusal, firstRecord}
+use Rattle.record.specs.Sheet.{sheetOf as sheetOfOperations}
 use Rattle.record.specs.SheetLaws.{AllRecordable, sheet-again, AllRecordable.none, AllRecordable.one}
+use Rattle.record.specs.SheetLaws.{followed-on, followed-stop, records-end, records-next}
 use Rattle.text.specs.Text.{kindOf, longer, afterWord, after, isBad, isWord, ended, numbers, badLine, encodeAll, sheetOf}
 use Rattle.text.specs.TextLaws.{encodeAll-none, encodeAll-one, encodeAll-append}
 use Rattle.text.specs.Printed.{most, printedOf}
 use Rattle.text.specs.PrintedLaws.{printed-sheet}
 use Rattle.text.specs.declared.Mode.the-variants.{Between, Word, Comment}
-use Rattle.listing.specs.Names.{nameOf}
 use Rattle.listing.specs.Listing.{one as firstLine, fieldText, fieldsText, line, lines, recordsText, textOf}
 use Rattle.listing.specs.ListingLaws.{text-behind}
-use Rattle.text_laws.specs.Reads.{Leads, leads-numbers, leads-good, leads-then, leads-decimal, leads-space, leads-mark, leads-end, leads-comment, Leads.stay, Leads.byte}
+use Rattle.text_laws.specs.Reads.{Leads, leads-numbers, leads-good, leads-then, leads-decimal, leads-space, leads-mark}
+use Rattle.text_laws.specs.Reads.{leads-end, leads-comment, Leads.stay, Leads.byte}
 
 -- The last number of a record, and those before it: a number is known where the next byte behind it is read.
 unfoldable pub final : ℕ → ℕ → (ℕ → ℕ) → ℕ
@@ -50,7 +53,8 @@ unfolding numbersOf recordBytes
 numbers-bytes op = front-bytes (op .code) (fieldCount (op .code)) (arg op)
 
 -- A line is read as the numbers of its record.
-leads-fields : (code n : ℕ) (f : ℕ → ℕ) → holds (within n f) → Leads (Word code) (fieldsText n f) (front code n f) (Word (final code n f))
+leads-fields : (code n : ℕ) (f : ℕ → ℕ) → holds (within n f)
+    → Leads (Word code) (fieldsText n f) (front code n f) (Word (final code n f))
 unfolding fieldsText fieldText front final
 leads-fields code zero f h = stay
 leads-fields code (suc n) f h =
@@ -58,12 +62,13 @@ leads-fields code (suc n) f h =
     (leads-fields code n f (λ k l. h k (omega arith)))
     (leads-then (leads-space (final code n f)) (leads-decimal (f n) (h n (omega arith))))
 
-one-line : (code : ℕ) → code < 13 → (i : ℕ) → i < length (nameOf code) → getD (nameOf code) i 0 ≡ 10 → ⊥
+one-line : (code : ℕ) → code ≤ lastCode → (i : ℕ) → i < length (nameOf code) → getD (nameOf code) i 0 ≡ 10 → ⊥
 unfolding test nameOf
-one-line = passed (each 13 (λ c. each (length (nameOf c)) (λ i. not (getD (nameOf c) i 0 ≐ 10)))) refl
+one-line code l =
+    passed (each (suc lastCode) (λ c. each (length (nameOf c)) (λ i. not (getD (nameOf c) i 0 ≐ 10)))) refl code (omega arith)
 
-leads-name : (code : ℕ) → code ≤ 12 → Leads Comment (nameOf code) [] Comment
-leads-name code h = leads-comment (nameOf code) (one-line code (omega arith))
+leads-name : (code : ℕ) → code ≤ lastCode → Leads Comment (nameOf code) [] Comment
+leads-name code h = leads-comment (nameOf code) (one-line code h)
 
 pub leads-line : (op : Operation) → holds (isRecordable op) → Leads Between (line op) (numbersOf op) Between
 unfolding line numbersOf
@@ -95,26 +100,27 @@ records-recordable : (sheet : List ℕ) (steps at : ℕ) → AllRecordable (reco
 unfolding recordsFrom
 records-recordable sheet zero at = none
 records-recordable sheet (suc steps) at =
-    go (decide (length sheet ≼ at)) (decide (recordAt sheet at .refused ≐ 0)) (records-recordable sheet steps (recordAt sheet at .next))
+    go (decide (length sheet ≼ at)) (decide (recordAt sheet at .refused ≐ 0))
+    (records-recordable sheet steps (recordAt sheet at .next))
   where
     go : Case (length sheet ≼ at)
         → Case (recordAt sheet at .refused ≐ 0)
         → AllRecordable (recordsFrom sheet steps (recordAt sheet at .next) .operations)
         → AllRecordable (recordsFrom sheet (suc steps) at .operations)
-    go (it-does h) c all = rw (choose-yes (length sheet ≼ at) (stopped 0) (followed (recordAt sheet at) (recordsFrom sheet steps (recordAt sheet at .next))) h) none
+    go (it-does h) c all = rw (records-end sheet (suc steps) at h) none
     go (it-does-not h) (it-does z) all =
-        rw (choose-no (length sheet ≼ at) (stopped 0) (followed (recordAt sheet at) (recordsFrom sheet steps (recordAt sheet at .next))) h)
-        (rw (choose-yes (recordAt sheet at .refused ≐ 0) (record { refused = recordsFrom sheet steps (recordAt sheet at .next) .refused; operations = recordAt sheet at .operation ∷ recordsFrom sheet steps (recordAt sheet at .next) .operations }) (stopped (recordAt sheet at .refused)) z)
-        (one (record-forward sheet at z .recordable) all))
+        let next = records-next sheet steps at (omega (arith, h)) in
+        rw (next, followed-on (recordAt sheet at) (recordsFrom sheet steps (recordAt sheet at .next)) z)
+        (one (record-forward sheet at z .recordable) all)
     go (it-does-not h) (it-does-not n) all =
-        rw (choose-no (length sheet ≼ at) (stopped 0) (followed (recordAt sheet at) (recordsFrom sheet steps (recordAt sheet at .next))) h)
-        (rw (choose-no (recordAt sheet at .refused ≐ 0) (record { refused = recordsFrom sheet steps (recordAt sheet at .next) .refused; operations = recordAt sheet at .operation ∷ recordsFrom sheet steps (recordAt sheet at .next) .operations }) (stopped (recordAt sheet at .refused)) n)
-        none)
+        let next = records-next sheet steps at (omega (arith, h)) in
+        rw (next, followed-stop (recordAt sheet at) (recordsFrom sheet steps (recordAt sheet at .next)) n) none
 
 -- A sheet that meets none of the refusals 3 to 6: its text is its first number and a line for each record, ..
 lines-alone : (k : ℕ) (c : Contents) → c .refused ≡ 0 → recordsText k c ≡ lines (c .operations)
 unfolding recordsText
-lines-alone k c e = ap (λ (t : List ℕ). lines (c .operations) ++ t) (choose-yes (c .refused ≐ 0) [] _ e) ∙ append-nil (lines (c .operations))
+lines-alone k c e =
+    ap (λ (t : List ℕ). lines (c .operations) ++ t) (choose-yes (c .refused ≐ 0) [] _ e) ∙ append-nil (lines (c .operations))
 
 head-good : (sheet : List ℕ) → headRefusal sheet ≡ 0 → headAt sheet ≡ Behind (firstRecord sheet)
 unfolding headAt placed
@@ -142,7 +148,9 @@ text-good sheet e = go (decide (headRefusal sheet ≐ 0))
     go (it-does z) =
         let read = contents-read sheet z in
         text-behind sheet (firstRecord sheet) (head-good sheet z)
-        ∙ ap (λ (t : List ℕ). firstLine ++ t) (lines-alone 1 (recordsFrom sheet (length sheet) (firstRecord sheet)) (ap (λ (c : Contents). c .refused) (sym read) ∙ e))
+        ∙ ap (λ (t : List ℕ). firstLine ++ t)
+        (lines-alone 1 (recordsFrom sheet (length sheet) (firstRecord sheet))
+        (ap (λ (c : Contents). c .refused) (sym read) ∙ e))
         ∙ ap (λ (c : Contents). firstLine ++ lines (c .operations)) (sym read)
     go (it-does-not n) = absurd (n (ap (λ (c : Contents). c .refused) (sym (contents-stopped sheet n)) ∙ e))
 
@@ -160,7 +168,8 @@ unfolding badLine sheetOf numbers ended sheetOfOperations encodeAll
 text-again sheet are e =
     let ops = contents sheet .operations in
     let text = text-good sheet e in
-    let read : Leads Between (firstLine ++ lines ops) (1 ∷ allNumbers ops) Between = leads-then leads-one (leads-lines (contents-recordable sheet)) in
+    let read : Leads Between (firstLine ++ lines ops) (1 ∷ allNumbers ops) Between =
+    leads-then leads-one (leads-lines (contents-recordable sheet)) in
     record {
       good = ap badLine text ∙ leads-good 1 read;
       same = ap sheetOf text

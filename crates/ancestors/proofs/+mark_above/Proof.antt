@@ -1,3 +1,4 @@
+-- `ancestors::mark_above` meets its contract, by induction on the handle: creators are below, and what is above a mark is marked.
 use Prim.Native.Nat.{ℕ, _<_, _≤_}
 use mathlib.Core.Path.{_≡_, sym, _∙_}
 use native.Mathlib.Omega.{arith}
@@ -142,8 +143,17 @@ mark-above-mark-above-requires t c κs =
     let below : s TaskCreator h < h = p .2 h (p .3) some in
     let m = now (x .args .marks) in
     let q : h ≡ t = x .pre .0 in
-    rw e
-    (omega (arith, below, q), (p .0, p .1, p .2, omega (arith, below, p .3), length-set m (s TaskCreator h) 1 ∙ p .4, closed-climb s (p .2) m h (p .1) (p .3) (p .4) (p .5) some))
+    rw e (
+      omega (arith, below, q),
+      (
+        p .0,
+        p .1,
+        p .2,
+        omega (arith, below, p .3),
+        length-set m (s TaskCreator h) 1 ∙ p .4,
+        closed-climb s (p .2) m h (p .1) (p .3) (p .4) (p .5) some,
+      ),
+    )
 
 mark-above-same-length : (t : ℕ) → mark-above-lts.Need-same-length (
   get-reads.Asked,
@@ -156,7 +166,8 @@ mark-above-same-length t c =
     let p = x .pre .1 in
     let s = read (now (x .args .s)) in
     let h = x .args .h in
-    let e : c .before .before .before .before .before .before .before .get .result ≡ s TaskCreator h = c .before .before .before .before .before .before .before .get .ensures in
+    let got = c .before .before .before .before .before .before .before .get in
+    let e : got .result ≡ s TaskCreator h = got .ensures in
     let low = creator-low s (p .2) h (p .3) in
     c .before .before .mark-above .ensures .same-length ∙ simp length-set
 
@@ -171,10 +182,12 @@ mark-above-returns-3 t c =
     let p = x .pre .1 in
     let s = read (now (x .args .s)) in
     let h = x .args .h in
-    let e : c .before .before .before .before .before .before .before .get .result ≡ s TaskCreator h = c .before .before .before .before .before .before .before .get .ensures in
+    let got = c .before .before .before .before .before .before .before .get in
+    let e : got .result ≡ s TaskCreator h = got .ensures in
     let low = creator-low s (p .2) h (p .3) in
     let some : 1 ≤ s TaskCreator h = omega (arith, e, c .before .before .before .before .before .before .if1 .left) in
-    above-climb s (p .2) (now (x .args .marks)) (c .before .before .mark-above .last .1 .0) h (p .1) (p .3) (p .4) some (simp length-set) (rw e at (c .before .before .mark-above .ensures))
+    above-climb s (p .2) (now (x .args .marks)) (c .before .before .mark-above .last .1 .0) h (p .1) (p .3) (p .4) some
+    (simp length-set) (rw e at (c .before .before .mark-above .ensures))
 
 pub +mark-above-spec : {M : Type 1} → statement M
 +mark-above-spec = close μ-mark-above λ t. mark-above-lts.spec (

@@ -1,3 +1,4 @@
+-- `ancestors::busy_marks` meets its contract: by `mark_all` over marks that are all 0.
 use mathlib.Core.Path.{refl}
 use Rattle.ancestors.specs.Above.{shows-zeros}
 use borrow.Author.Needs.{needs}

@@ -1,8 +1,10 @@
+-- `ancestors::mark_all` meets its contract: before each turn the marks are those above the live tasks below that handle.
 use Prim.Native.Nat.{_≤_, _+_, _-_}
 use mathlib.Core.Path.{_≡_, sym, _∙_}
 use native.Mathlib.Omega.{arith}
 use lib.ListN.{length}
 use denote.Ref.{now}
+use Rattle.session.specs.Names.{mostObjects, objectPlaces}
 use Rattle.session.specs.Table.{read, words}
 use Rattle.session.specs.declared.Field.the-variants.{Objects}
 use Rattle.laws.specs.Under.{Falls}
@@ -12,7 +14,8 @@ use Rattle.ancestors.proofs.mark_all.Tie as tie
 
 abbrev Inv-loop : tie.InvT-loop
 Inv-loop s marks₀ n h₀ marks h =
-    (h ≤ n + 1) × (n ≡ read s Objects 0) × (n ≤ 512) × (words ≤ length s) × Falls (read s) × (length marks ≡ 513) × (length marks₀ ≡ 513) × Shows marks (busyBelow (read s) h)
+    (h ≤ n + 1) × (n ≡ read s Objects 0) × (n ≤ mostObjects) × (words ≤ length s) × Falls (read s)
+    × (length marks ≡ objectPlaces) × (length marks₀ ≡ objectPlaces) × Shows marks (busyBelow (read s) h)
 
 abbrev μ-loop : tie.MeasureT-loop
 μ-loop s marks₀ n h₀ marks h = n + 1 - h
@@ -24,8 +27,16 @@ loop-holds : tie.Need-loop-holds Inv-loop μ-loop
 loop-holds c =
     let x = c .before .before .before in
     let p = x .pre in
-    let e = c .get .ensures in
-    (omega arith, e, omega (arith, e, p .1), p .0, p .2, p .3, p .3, shows-none (read (now (x .args .s))) (now (x .args .marks)) (p .4))
+    let e = c .get .ensures in (
+      omega arith,
+      e,
+      omega (arith, e, p .1),
+      p .0,
+      p .2,
+      p .3,
+      p .3,
+      shows-none (read (now (x .args .s))) (now (x .args .marks)) (p .4),
+    )
 
 mark-live-requires : tie.Need-mark-live-requires Inv-loop μ-loop
 mark-live-requires c κs =

@@ -1,3 +1,4 @@
+-- `ancestors::mark_live` meets its contract: a live task adds those above it (`shows-more`), another adds none (`shows-skip`).
 use mathlib.Core.Path.{sym, _∙_}
 use borrow.Author.Needs.{needs}
 use denote.Ref.{now}
@@ -27,7 +28,8 @@ returns c =
     let f = c .before .before in
     let x = f .before .before .before .before .before .before in
     let s = read (now (x .args .s)) in
-    let live : holds (isLive s (x .args .h)) = passed _ (sym (f .before .before .before .is-live .ensures) ∙ f .before .before .if1 .taken) in
+    let live : holds (isLive s (x .args .h)) =
+    passed _ (sym (f .before .before .before .is-live .ensures) ∙ f .before .before .if1 .taken) in
     shows-more s (x .pre .2) (now (x .args .marks)) _ (x .args .h) live (x .pre .5) (f .mark-above .ensures)
 
 returns-2 : tie.Need-returns-2

@@ -1,3 +1,5 @@
+-- `checks::deliver_refusal` meets its contract: check 9 is two tests, link 0 and the count of links, and check 16 one; one that
+-- fails stops, one that holds is skipped, and past both `done` gives 0.
 use Rattle.checks.specs.RefusalLaws.{Left, done, skip, stop, stops}
 use Rattle.rules.specs.Checks.{Check, deliverChecks}
 use Rattle.session.specs.Table.{read}

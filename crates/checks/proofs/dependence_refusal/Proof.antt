@@ -1,5 +1,7 @@
+-- `checks::dependence_refusal` meets its contract: checks 7 to 13 in turn, of which 7, 9, 10 and 11 are two tests each; the first
+-- that fails stops, and what is left of the checks is what `satisfy_or_link_refusal` answers.
 use Rattle.checks.specs.RefusalLaws.{Left, skip, stop, stops}
-use Rattle.checks.specs.TestLaws.{no, no-not, yes, yes-not}
+use Rattle.reading.specs.TestLaws.{no, no-not, yes, yes-not}
 use Rattle.rules.specs.Checks.{Check, dependenceChecks}
 use Rattle.session.specs.Table.{read}
 use borrow.Author.Needs.{needs}
@@ -22,22 +24,38 @@ past-8 c = past-7 (c .before .before) ∙ skip _ _ _ (yes-not _ (c .before .is-r
 past-9 : (c : tie.Else5) → Left (asked (c .before .before .before .before .before .before .before .before .before)) 3
 past-9 c =
     past-8 (c .before .before .before .before) ∙
-    skip _ _ _ (yes-not _ (c .before .before .before .is-made-or-null .ensures) (c .before .before .if4 .left), yes-not _ (c .before .is-made .ensures) (c .if5 .left))
+    skip _ _ _ (
+      yes-not _ (c .before .before .before .is-made-or-null .ensures) (c .before .before .if4 .left),
+      yes-not _
+          (c .before .is-made .ensures) (c .if5 .left),
+    )
 
-past-10 : (c : tie.Else7) → Left (asked (c .before .before .before .before .before .before .before .before .before .before .before .before .before)) 4
+past-10 : (c : tie.Else7)
+    → Left (asked (c .before .before .before .before .before .before .before .before .before .before .before .before .before)) 4
 past-10 c =
     past-9 (c .before .before .before .before) ∙
-    skip _ _ _ (yes-not _ (c .before .before .before .is-source .ensures) (c .before .before .if6 .left), yes-not _ (c .before .is-destination .ensures) (c .if7 .left))
+    skip _ _ _ (
+      yes-not _ (c .before .before .before .is-source .ensures) (c .before .before .if6 .left),
+      yes-not _
+          (c .before .is-destination .ensures) (c .if7 .left),
+    )
 
-past-11 : (c : tie.Else9) → Left (asked (c .before .before .before .before .before .before .before .before .before .before .before .before .before .before .before .before .before)) 5
+past-11 : (c : tie.Else9)
+    → Left (asked (c .before .before .before .before .before .before .before .before .before .before .before .before .before .before .before .before .before)) 5
 past-11 c =
     past-10 (c .before .before .before .before) ∙
-    skip _ _ _ (yes-not _ (c .before .before .before .remains-or-null .ensures) (c .before .before .if8 .left), no _ (c .before .is-gone .ensures) (c .if9 .left))
+    skip _ _ _ (
+      yes-not _ (c .before .before .before .remains-or-null .ensures) (c .before .before .if8 .left),
+      no _
+          (c .before .is-gone .ensures) (c .if9 .left),
+    )
 
-past-12 : (c : tie.Else10) → Left (asked (c .before .before .before .before .before .before .before .before .before .before .before .before .before .before .before .before .before .before .before)) 6
+past-12 : (c : tie.Else10)
+    → Left (asked (c .before .before .before .before .before .before .before .before .before .before .before .before .before .before .before .before .before .before .before)) 6
 past-12 c = past-11 (c .before .before) ∙ skip _ _ _ (yes-not _ (c .before .has-slot .ensures) (c .if10 .left))
 
-past-13 : (c : tie.Else11) → Left (asked (c .before .before .before .before .before .before .before .before .before .before .before .before .before .before .before .before .before .before .before .before .before)) 7
+past-13 : (c : tie.Else11)
+    → Left (asked (c .before .before .before .before .before .before .before .before .before .before .before .before .before .before .before .before .before .before .before .before .before)) 7
 past-13 c = past-12 (c .before .before) ∙ skip _ _ _ (yes-not _ (c .before .is-unclaimed .ensures) (c .if11 .left))
 
 returns : tie.Need-returns
@@ -78,7 +96,8 @@ is-destination-requires c κs = search needs
 
 returns-7 : tie.Need-returns-7
 returns-7 c =
-    stops _ _ _ (past-9 (c .before .before .before .before)) (λ x. no-not _ (c .before .is-destination .ensures) (c .if7 .taken) (x .1))
+    stops _ _ _ (past-9 (c .before .before .before .before))
+    (λ x. no-not _ (c .before .is-destination .ensures) (c .if7 .taken) (x .1))
 
 remains-or-null-requires : tie.Need-remains-or-null-requires
 remains-or-null-requires c κs = search needs

@@ -1,5 +1,7 @@
+-- `checks::end_refusal` meets its contract: checks 9, 10 and 11, two tests each (of the task and of the block), and check 16; the
+-- first that fails stops, one that holds is skipped, and past the last `done` gives 0.
 use Rattle.checks.specs.RefusalLaws.{Left, done, skip, stop, stops}
-use Rattle.checks.specs.TestLaws.{no, no-not, yes, yes-not}
+use Rattle.reading.specs.TestLaws.{no, no-not, yes, yes-not}
 use Rattle.rules.specs.Checks.{Check, endChecks}
 use Rattle.session.specs.Table.{read}
 use borrow.Author.Needs.{needs}
@@ -14,19 +16,33 @@ asked c = endChecks (read (c .args .s .now)) (c .args .t) (c .args .b)
 
 past-9 : (c : tie.Else2) → Left (asked (c .before .before .before .before .before)) 1
 past-9 c =
-    skip _ _ _ (yes-not _ (c .before .before .before .is-made .ensures) (c .before .before .if1 .left), yes-not _ (c .before .is-made-or-null .ensures) (c .if2 .left))
+    skip _ _ _ (
+      yes-not _ (c .before .before .before .is-made .ensures) (c .before .before .if1 .left),
+      yes-not _
+          (c .before .is-made-or-null .ensures) (c .if2 .left),
+    )
 
 past-10 : (c : tie.Else4) → Left (asked (c .before .before .before .before .before .before .before .before .before)) 2
 past-10 c =
     past-9 (c .before .before .before .before) ∙
-    skip _ _ _ (yes-not _ (c .before .before .before .is-kind .ensures) (c .before .before .if3 .left), yes-not _ (c .before .is-block-or-null .ensures) (c .if4 .left))
+    skip _ _ _ (
+      yes-not _ (c .before .before .before .is-kind .ensures) (c .before .before .if3 .left),
+      yes-not _
+          (c .before .is-block-or-null .ensures) (c .if4 .left),
+    )
 
-past-11 : (c : tie.Else6) → Left (asked (c .before .before .before .before .before .before .before .before .before .before .before .before .before)) 3
+past-11 : (c : tie.Else6)
+    → Left (asked (c .before .before .before .before .before .before .before .before .before .before .before .before .before)) 3
 past-11 c =
     past-10 (c .before .before .before .before) ∙
-    skip _ _ _ (no _ (c .before .before .before .is-gone .ensures) (c .before .before .if5 .left), yes-not _ (c .before .remains-or-null .ensures) (c .if6 .left))
+    skip _ _ _ (
+      no _ (c .before .before .before .is-gone .ensures) (c .before .before .if5 .left),
+      yes-not _
+          (c .before .remains-or-null .ensures) (c .if6 .left),
+    )
 
-past-16 : (c : tie.Else7) → Left (asked (c .before .before .before .before .before .before .before .before .before .before .before .before .before .before .before)) 4
+past-16 : (c : tie.Else7)
+    → Left (asked (c .before .before .before .before .before .before .before .before .before .before .before .before .before .before .before)) 4
 past-16 c = past-11 (c .before .before) ∙ skip _ _ _ (sym (c .before .of-object .ensures) ∙ c .if7 .left)
 
 is-made-requires : tie.Need-is-made-requires
@@ -52,7 +68,8 @@ is-block-or-null-requires c κs = search needs
 
 returns-4 : tie.Need-returns-4
 returns-4 c =
-    stops _ _ _ (past-9 (c .before .before .before .before)) (λ x. no-not _ (c .before .is-block-or-null .ensures) (c .if4 .taken) (x .1))
+    stops _ _ _ (past-9 (c .before .before .before .before))
+    (λ x. no-not _ (c .before .is-block-or-null .ensures) (c .if4 .taken) (x .1))
 
 is-gone-requires : tie.Need-is-gone-requires
 is-gone-requires c κs = search needs
@@ -65,7 +82,8 @@ remains-or-null-requires c κs = search needs
 
 returns-6 : tie.Need-returns-6
 returns-6 c =
-    stops _ _ _ (past-10 (c .before .before .before .before)) (λ x. no-not _ (c .before .remains-or-null .ensures) (c .if6 .taken) (x .1))
+    stops _ _ _ (past-10 (c .before .before .before .before))
+    (λ x. no-not _ (c .before .remains-or-null .ensures) (c .if6 .taken) (x .1))
 
 of-object-requires : tie.Need-of-object-requires
 of-object-requires c κs = search needs

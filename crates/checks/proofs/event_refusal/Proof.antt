@@ -1,11 +1,12 @@
+-- `checks::event_refusal` meets its contract: checks 7, 8 and 20 in turn, by what the three callees answer; the first that fails
+-- stops, one that holds is skipped, and past the last `done` gives 0.
 use Rattle.checks.specs.RefusalLaws.{Left, done, skip, stop, stops}
-use Rattle.checks.specs.TestLaws.{no-not, yes-not}
+use Rattle.reading.specs.TestLaws.{no-not, yes-not}
 use Rattle.rules.specs.Checks.{Check, eventChecks}
 use Rattle.session.specs.Table.{read}
 use borrow.Author.Needs.{needs}
 use mathlib.Core.List.{List}
 use mathlib.Core.Path.{_∙_, sym}
-use native.Mathlib.Omega.{arith}
 use Rattle.checks.proofs.event_refusal.Statement.{statement}
 use Rattle.checks.proofs.event_refusal.Tie as tie
 
@@ -13,44 +14,44 @@ use Rattle.checks.proofs.event_refusal.Tie as tie
 abbrev asked : tie.Start → List Check
 asked c = eventChecks (read (c .args .s .now)) (c .args .caller) (c .args .ty)
 
-past-7 : (c : tie.Else2) → Left (asked (c .before .before .before)) 1
-past-7 c = skip _ _ _ (c .before .if1 .left, c .if2 .left)
+past-7 : (c : tie.Else1) → Left (asked (c .before .before .before)) 1
+past-7 c = skip _ _ _ (yes-not _ (c .before .is-offered-type .ensures) (c .if1 .left))
 
-past-8 : (c : tie.Else3) → Left (asked (c .before .before .before .before .before)) 2
-past-8 c = past-7 (c .before .before) ∙ skip _ _ _ (yes-not _ (c .before .is-running .ensures) (c .if3 .left))
+past-8 : (c : tie.Else2) → Left (asked (c .before .before .before .before .before)) 2
+past-8 c = past-7 (c .before .before) ∙ skip _ _ _ (yes-not _ (c .before .is-running .ensures) (c .if2 .left))
 
-past-20 : (c : tie.Else4) → Left (asked (c .before .before .before .before .before .before .before)) 3
-past-20 c = past-8 (c .before .before) ∙ skip _ _ _ (yes-not _ (c .before .has-room .ensures) (c .if4 .left))
+past-20 : (c : tie.Else3) → Left (asked (c .before .before .before .before .before .before .before)) 3
+past-20 c = past-8 (c .before .before) ∙ skip _ _ _ (yes-not _ (c .before .has-room .ensures) (c .if3 .left))
+
+is-offered-type-requires : tie.Need-is-offered-type-requires
+is-offered-type-requires c κs = search needs
 
 returns : tie.Need-returns
-returns c = stop _ _ _ (λ x. omega arith)
-
-returns-2 : tie.Need-returns-2
-returns-2 c = stop _ _ _ (λ x. omega arith)
+returns c = stop _ _ _ (no-not _ (c .before .is-offered-type .ensures) (c .if1 .taken))
 
 is-running-requires : tie.Need-is-running-requires
 is-running-requires c κs = search needs
 
-returns-3 : tie.Need-returns-3
-returns-3 c = stops _ _ _ (past-7 (c .before .before)) (no-not _ (c .before .is-running .ensures) (c .if3 .taken))
+returns-2 : tie.Need-returns-2
+returns-2 c = stops _ _ _ (past-7 (c .before .before)) (no-not _ (c .before .is-running .ensures) (c .if2 .taken))
 
 has-room-requires : tie.Need-has-room-requires
 has-room-requires c κs = search needs
 
-returns-4 : tie.Need-returns-4
-returns-4 c = stops _ _ _ (past-8 (c .before .before)) (no-not _ (c .before .has-room .ensures) (c .if4 .taken))
+returns-3 : tie.Need-returns-3
+returns-3 c = stops _ _ _ (past-8 (c .before .before)) (no-not _ (c .before .has-room .ensures) (c .if3 .taken))
 
-returns-5 : tie.Need-returns-5
-returns-5 c = sym (past-20 c ∙ done)
+returns-4 : tie.Need-returns-4
+returns-4 c = sym (past-20 c ∙ done)
 
 pub event-refusal-spec : {M : Type 1} → statement M
 event-refusal-spec =
     tie.close
     (tie.spec
+    is-offered-type-requires
     returns
-    returns-2
     is-running-requires
-    returns-3
+    returns-2
     has-room-requires
-    returns-4
-    returns-5)
+    returns-3
+    returns-4)

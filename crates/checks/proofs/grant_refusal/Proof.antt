@@ -1,5 +1,7 @@
+-- `checks::grant_refusal` meets its contract: checks 9, 10, 11, 16, 17 and 18 in turn, and past the last `done` gives 0; that the
+-- task is made (check 9) and resolved (check 16) is what `is_free` requires.
 use Rattle.checks.specs.RefusalLaws.{Left, done, skip, stop, stops}
-use Rattle.checks.specs.TestLaws.{no, no-not, yes, yes-not}
+use Rattle.reading.specs.TestLaws.{no, no-not, yes, yes-not}
 use Rattle.rules.specs.Checks.{Check, grantChecks}
 use Rattle.rules.specs.Reading.{made}
 use Rattle.session.specs.Table.{read}
@@ -26,12 +28,14 @@ past-11 c = past-10 (c .before .before) ∙ skip _ _ _ (no _ (c .before .is-gone
 past-16 : (c : tie.Else4) → Left (asked (c .before .before .before .before .before .before .before .before .before)) 4
 past-16 c = past-11 (c .before .before) ∙ skip _ _ _ (sym (c .before .of-object .ensures) ∙ c .if4 .left)
 
-past-17 : (c : tie.Else5) → Left (asked (c .before .before .before .before .before .before .before .before .before .before .before)) 5
+past-17 : (c : tie.Else5)
+    → Left (asked (c .before .before .before .before .before .before .before .before .before .before .before)) 5
 past-17 c =
     past-16 (c .before .before) ∙
     skip _ _ _ (yes-not _ (c .before .blocks-remain .ensures) (c .if5 .left))
 
-past-18 : (c : tie.Else6) → Left (asked (c .before .before .before .before .before .before .before .before .before .before .before .before .before)) 6
+past-18 : (c : tie.Else6)
+    → Left (asked (c .before .before .before .before .before .before .before .before .before .before .before .before .before)) 6
 past-18 c = past-17 (c .before .before) ∙ skip _ _ _ (yes-not _ (c .before .is-free .ensures) (c .if6 .left))
 
 is-made-requires : tie.Need-is-made-requires

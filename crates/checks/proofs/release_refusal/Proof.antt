@@ -1,5 +1,7 @@
+-- `checks::release_refusal` meets its contract: checks 8 to 11 and 15 in turn; the first that fails stops, one that holds is
+-- skipped, and past the last `done` gives 0.
 use Rattle.checks.specs.RefusalLaws.{Left, done, skip, stop, stops}
-use Rattle.checks.specs.TestLaws.{no-not, yes-not}
+use Rattle.reading.specs.TestLaws.{no-not, yes-not}
 use Rattle.rules.specs.Checks.{Check, releaseChecks}
 use Rattle.session.specs.Table.{read}
 use borrow.Author.Needs.{needs}
@@ -24,7 +26,8 @@ past-10 c = past-9 (c .before .before) ∙ skip _ _ _ (yes-not _ (c .before .is-
 past-11 : (c : tie.Else4) → Left (asked (c .before .before .before .before .before .before .before .before .before)) 4
 past-11 c = past-10 (c .before .before) ∙ skip _ _ _ (λ x. c .if4 .left (c .before .of-object .ensures ∙ x))
 
-past-15 : (c : tie.Else5) → Left (asked (c .before .before .before .before .before .before .before .before .before .before .before)) 5
+past-15 : (c : tie.Else5)
+    → Left (asked (c .before .before .before .before .before .before .before .before .before .before .before)) 5
 past-15 c = past-11 (c .before .before) ∙ skip _ _ _ (yes-not _ (c .before .holds-block .ensures) (c .if5 .left))
 
 is-running-requires : tie.Need-is-running-requires

@@ -1,5 +1,7 @@
+-- `checks::satisfy_or_link_refusal` meets its contract: of an event as source checks 14 and 19 are skipped and the count of links
+-- decides 21; of any other 14 and 19 decide, and 21 is skipped.
 use Rattle.checks.specs.RefusalLaws.{done, skip, stop, stops}
-use Rattle.checks.specs.TestLaws.{no, yes}
+use Rattle.reading.specs.TestLaws.{no, yes}
 use borrow.Author.Needs.{needs}
 use mathlib.Core.Logic.{inl, inr, ⊎-elim}
 use mathlib.Core.Path.{_∙_, sym}
@@ -31,7 +33,8 @@ is-fired-sticky-requires c κs = search needs
 returns-3 : tie.Need-returns-3
 returns-3 c =
     let e1 = c .before .before in
-    stop _ _ _ (⊎-elim (no _ (e1 .before .is-kind .ensures) (e1 .if1 .left)) (λ x. x (yes _ (c .before .is-fired-sticky .ensures) (c .if3 .taken))))
+    stop _ _ _ (⊎-elim (no _ (e1 .before .is-kind .ensures) (e1 .if1 .left))
+    (λ x. x (yes _ (c .before .is-fired-sticky .ensures) (c .if3 .taken))))
 
 overflows-requires : tie.Need-overflows-requires
 overflows-requires c κs = search needs
@@ -41,7 +44,8 @@ returns-4 c =
     let e3 = c .before .before in
     let e1 = e3 .before .before in
     stops _ _ _ (skip _ _ _ (inr (no _ (e3 .before .is-fired-sticky .ensures) (e3 .if3 .left))))
-    (⊎-elim (no _ (e1 .before .is-kind .ensures) (e1 .if1 .left)) (λ x. x (yes _ (c .before .overflows .ensures) (c .if4 .taken))))
+    (⊎-elim (no _ (e1 .before .is-kind .ensures) (e1 .if1 .left))
+    (λ x. x (yes _ (c .before .overflows .ensures) (c .if4 .taken))))
 
 returns-5 : tie.Need-returns-5
 returns-5 c =

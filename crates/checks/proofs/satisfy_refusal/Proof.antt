@@ -1,5 +1,7 @@
+-- `checks::satisfy_refusal` meets its contract: checks 8 to 12, 14 and 19 in turn, of which 9, 10 and 11 are two tests each; the
+-- first that fails stops, one that holds is skipped, and past the last `done` gives 0.
 use Rattle.checks.specs.RefusalLaws.{Left, done, skip, stop, stops}
-use Rattle.checks.specs.TestLaws.{no, no-not, yes, yes-not}
+use Rattle.reading.specs.TestLaws.{no, no-not, yes, yes-not}
 use Rattle.rules.specs.Checks.{Check, satisfyChecks}
 use Rattle.session.specs.Table.{read}
 use borrow.Author.Needs.{needs}
@@ -18,25 +20,42 @@ past-8 c = skip _ _ _ (yes-not _ (c .before .is-running .ensures) (c .if1 .left)
 past-9 : (c : tie.Else3) → Left (asked (c .before .before .before .before .before .before .before)) 2
 past-9 c =
     past-8 (c .before .before .before .before) ∙
-    skip _ _ _ (yes-not _ (c .before .before .before .is-made .ensures) (c .before .before .if2 .left), yes-not _ (c .before .is-made-or-null .ensures) (c .if3 .left))
+    skip _ _ _ (
+      yes-not _ (c .before .before .before .is-made .ensures) (c .before .before .if2 .left),
+      yes-not _
+          (c .before .is-made-or-null .ensures) (c .if3 .left),
+    )
 
-past-10 : (c : tie.Else5) → Left (asked (c .before .before .before .before .before .before .before .before .before .before .before)) 3
+past-10 : (c : tie.Else5)
+    → Left (asked (c .before .before .before .before .before .before .before .before .before .before .before)) 3
 past-10 c =
     past-9 (c .before .before .before .before) ∙
-    skip _ _ _ (yes-not _ (c .before .before .before .is-user-event .ensures) (c .before .before .if4 .left), yes-not _ (c .before .is-block-or-null .ensures) (c .if5 .left))
+    skip _ _ _ (
+      yes-not _ (c .before .before .before .is-user-event .ensures) (c .before .before .if4 .left),
+      yes-not _
+          (c .before .is-block-or-null .ensures) (c .if5 .left),
+    )
 
-past-11 : (c : tie.Else7) → Left (asked (c .before .before .before .before .before .before .before .before .before .before .before .before .before .before .before)) 4
+past-11 : (c : tie.Else7)
+    → Left (asked (c .before .before .before .before .before .before .before .before .before .before .before .before .before .before .before)) 4
 past-11 c =
     past-10 (c .before .before .before .before) ∙
-    skip _ _ _ (no _ (c .before .before .before .is-gone .ensures) (c .before .before .if6 .left), yes-not _ (c .before .remains-or-null .ensures) (c .if7 .left))
+    skip _ _ _ (
+      no _ (c .before .before .before .is-gone .ensures) (c .before .before .if6 .left),
+      yes-not _
+          (c .before .remains-or-null .ensures) (c .if7 .left),
+    )
 
-past-12 : (c : tie.Else8) → Left (asked (c .before .before .before .before .before .before .before .before .before .before .before .before .before .before .before .before .before)) 5
+past-12 : (c : tie.Else8)
+    → Left (asked (c .before .before .before .before .before .before .before .before .before .before .before .before .before .before .before .before .before)) 5
 past-12 c = past-11 (c .before .before) ∙ skip _ _ _ (yes-not _ (c .before .has-slot .ensures) (c .if8 .left))
 
-past-14 : (c : tie.Else9) → Left (asked (c .before .before .before .before .before .before .before .before .before .before .before .before .before .before .before .before .before .before .before)) 6
+past-14 : (c : tie.Else9)
+    → Left (asked (c .before .before .before .before .before .before .before .before .before .before .before .before .before .before .before .before .before .before .before)) 6
 past-14 c = past-12 (c .before .before) ∙ skip _ _ _ (no _ (c .before .is-fired-sticky .ensures) (c .if9 .left))
 
-past-19 : (c : tie.Else10) → Left (asked (c .before .before .before .before .before .before .before .before .before .before .before .before .before .before .before .before .before .before .before .before .before)) 7
+past-19 : (c : tie.Else10)
+    → Left (asked (c .before .before .before .before .before .before .before .before .before .before .before .before .before .before .before .before .before .before .before .before .before)) 7
 past-19 c = past-14 (c .before .before) ∙ skip _ _ _ (no _ (c .before .overflows .ensures) (c .if10 .left))
 
 is-running-requires : tie.Need-is-running-requires
@@ -56,7 +75,8 @@ is-made-or-null-requires c κs = search needs
 
 returns-3 : tie.Need-returns-3
 returns-3 c =
-    stops _ _ _ (past-8 (c .before .before .before .before)) (λ x. no-not _ (c .before .is-made-or-null .ensures) (c .if3 .taken) (x .1))
+    stops _ _ _ (past-8 (c .before .before .before .before))
+    (λ x. no-not _ (c .before .is-made-or-null .ensures) (c .if3 .taken) (x .1))
 
 is-user-event-requires : tie.Need-is-user-event-requires
 is-user-event-requires c κs = search needs
@@ -70,7 +90,8 @@ is-block-or-null-requires c κs = search needs
 
 returns-5 : tie.Need-returns-5
 returns-5 c =
-    stops _ _ _ (past-9 (c .before .before .before .before)) (λ x. no-not _ (c .before .is-block-or-null .ensures) (c .if5 .taken) (x .1))
+    stops _ _ _ (past-9 (c .before .before .before .before))
+    (λ x. no-not _ (c .before .is-block-or-null .ensures) (c .if5 .taken) (x .1))
 
 is-gone-requires : tie.Need-is-gone-requires
 is-gone-requires c κs = search needs
@@ -83,7 +104,8 @@ remains-or-null-requires c κs = search needs
 
 returns-7 : tie.Need-returns-7
 returns-7 c =
-    stops _ _ _ (past-10 (c .before .before .before .before)) (λ x. no-not _ (c .before .remains-or-null .ensures) (c .if7 .taken) (x .1))
+    stops _ _ _ (past-10 (c .before .before .before .before))
+    (λ x. no-not _ (c .before .remains-or-null .ensures) (c .if7 .taken) (x .1))
 
 has-slot-requires : tie.Need-has-slot-requires
 has-slot-requires c κs = search needs

@@ -1,5 +1,7 @@
+-- `checks::start_refusal` meets its contract: checks 9, 10, 11 and 16 in turn; the first that fails stops, one that holds is
+-- skipped, and past the last `done` gives 0.
 use Rattle.checks.specs.RefusalLaws.{Left, done, skip, stop, stops}
-use Rattle.checks.specs.TestLaws.{no, no-not, yes, yes-not}
+use Rattle.reading.specs.TestLaws.{no, no-not, yes, yes-not}
 use Rattle.rules.specs.Checks.{Check, startChecks}
 use Rattle.session.specs.Table.{read}
 use borrow.Author.Needs.{needs}

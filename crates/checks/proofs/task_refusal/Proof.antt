@@ -1,5 +1,7 @@
+-- `checks::task_refusal` meets its contract: checks 7 to 12 and 20 in turn, of which 7 is three tests; the first that fails
+-- stops, one that holds is skipped, and past the last `done` gives 0.
 use Rattle.checks.specs.RefusalLaws.{Left, done, skip, stop, stops}
-use Rattle.checks.specs.TestLaws.{no, no-not, yes, yes-not}
+use Rattle.reading.specs.TestLaws.{no, no-not, yes, yes-not}
 use Rattle.rules.specs.Checks.{Check, taskChecks}
 use Rattle.session.specs.Table.{read}
 use borrow.Author.Needs.{needs}
@@ -11,7 +13,8 @@ use Rattle.checks.proofs.task_refusal.Tie as tie
 
 -- the checks, at the function's entry
 abbrev asked : tie.Start → List Check
-asked c = taskChecks (read (c .args .s .now)) (c .args .caller) (c .args .template) (c .args .n) (c .args .finish) (c .args .output)
+asked c =
+    taskChecks (read (c .args .s .now)) (c .args .caller) (c .args .template) (c .args .n) (c .args .finish) (c .args .output)
 
 past-7 : (c : tie.Else3) → Left (asked (c .before .before .before .before)) 1
 past-7 c = skip _ _ _ (c .before .before .if1 .left, (c .before .if2 .left, c .if3 .left))
@@ -25,13 +28,16 @@ past-9 c = past-8 (c .before .before) ∙ skip _ _ _ (yes-not _ (c .before .is-m
 past-10 : (c : tie.Else6) → Left (asked (c .before .before .before .before .before .before .before .before .before .before)) 4
 past-10 c = past-9 (c .before .before) ∙ skip _ _ _ (yes-not _ (c .before .is-kind .ensures) (c .if6 .left))
 
-past-11 : (c : tie.Else7) → Left (asked (c .before .before .before .before .before .before .before .before .before .before .before .before)) 5
+past-11 : (c : tie.Else7)
+    → Left (asked (c .before .before .before .before .before .before .before .before .before .before .before .before)) 5
 past-11 c = past-10 (c .before .before) ∙ skip _ _ _ (no _ (c .before .is-gone .ensures) (c .if7 .left))
 
-past-12 : (c : tie.Else8) → Left (asked (c .before .before .before .before .before .before .before .before .before .before .before .before .before .before)) 6
+past-12 : (c : tie.Else8)
+    → Left (asked (c .before .before .before .before .before .before .before .before .before .before .before .before .before .before)) 6
 past-12 c = past-11 (c .before .before) ∙ skip _ _ _ (yes-not _ (c .before .is-count .ensures) (c .if8 .left))
 
-past-20 : (c : tie.Else9) → Left (asked (c .before .before .before .before .before .before .before .before .before .before .before .before .before .before .before .before)) 7
+past-20 : (c : tie.Else9)
+    → Left (asked (c .before .before .before .before .before .before .before .before .before .before .before .before .before .before .before .before)) 7
 past-20 c = past-12 (c .before .before) ∙ skip _ _ _ (yes-not _ (c .before .has-room .ensures) (c .if9 .left))
 
 returns : tie.Need-returns

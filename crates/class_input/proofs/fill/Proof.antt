@@ -19,7 +19,9 @@ slice-relend-prefix-read : tie.Need-slice-relend-prefix-read
 slice-relend-prefix-read c = search needs
 
 slice-aggregate-read : tie.Need-slice-aggregate-read
-slice-aggregate-read c = let s = c .before .before .before .before .before in sym (length-take-le _ _ (omega (arith, s .pre .0, c .before .may-read .ensures .1)))
+slice-aggregate-read c =
+    let s = c .before .before .before .before .before in
+    sym (length-take-le _ _ (omega (arith, s .pre .0, c .before .may-read .ensures .1)))
 
 read-requires : tie.Need-read-requires
 read-requires c κs = search needs
@@ -43,7 +45,8 @@ returns-2 c =
     let few : c .count .result ≤ most .result = omega (arith, c .count .ensures .0 .0, slice-aggregate-count (c .before)) in
     filled-new (s .args .window) (s .args .left) (s .args .input .now) _ (c .count .result)
     (λ h. omega (arith, h, c .before .before .before .before .before .before .before .if1 .left))
-    (omega (arith, few, most .ensures .1, same-length c, s .pre .0)) (omega (arith, few, most .ensures .0, least-both (1 + behind (s .args .left)) 16384 .0))
+    (omega (arith, few, most .ensures .1, same-length c, s .pre .0))
+    (omega (arith, few, most .ensures .0, least-both (1 + behind (s .args .left)) 16384 .0))
 
 pub fill-spec : {M : Type 1} → statement M
 fill-spec =

@@ -1,4 +1,4 @@
--- `class_input::hand` meets its contract.
+-- `class_input::hand` meets its contract: the window's first bytes, as many as are asked or there (`least-both`).
 use Prim.Native.Nat.{_+_, _-_}
 use native.Mathlib.Omega.{arith}
 use borrow.Rule.Slice.PartMut.{mid-len}
@@ -31,7 +31,13 @@ write-bytes-requires c κs =
     let w = s .args .window in
     let k = c .before .before .least-of in
     let both = least-both (s .args .n) (w .to - w .from) in
-    omega (arith, mid-len (w .from) (w .from + k .result) (s .args .input .now) (omega (arith, k .ensures, s .pre .0, both .1)), k .ensures .0, both .0, s .pre .1)
+    omega (
+      arith,
+      mid-len (w .from) (w .from + k .result) (s .args .input .now) (omega (arith, k .ensures, s .pre .0, both .1)),
+      k .ensures .0,
+      both .0,
+      s .pre .1,
+    )
 
 same-length : tie.Need-same-length
 same-length c = search needs

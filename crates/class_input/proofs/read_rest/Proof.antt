@@ -27,7 +27,8 @@ returns : tie.Need-returns
 returns c =
     let s = c .before .before .before .before .before in
     let read = c .before .before .read-full in
-    let a = apart-read (s .args .room .now) (read .last .1 .0) (s .args .from) (s .args .to) (s .pre .0) (s .pre .1) (read .kept .1 .0) in
+    let a = apart-read (s .args .room .now) (read .last .1 .0) (s .args .from) (s .args .to) (s .pre .0) (s .pre .1)
+    (read .kept .1 .0) in
     ((omega arith, omega (arith, read .ensures .0)), a)
 
 pub read-rest-spec : {M : Type 1} → statement M

@@ -19,7 +19,10 @@ take-requires : tie.Need-take-requires
 take-requires c κs = search needs
 
 add-t13 : tie.Need-add-t13
-add-t13 c = omega (arith, c .before .before .before .before .before .before .take .ensures .moved .told .short, c .before .before .before .before .before .before .before .before .before .before .before .before .pre .0 .2)
+add-t13 c =
+    let at-take = c .before .before .before .before .before .before in
+    let entry = at-take .before .before .before .before .before .before in
+    omega (arith, at-take .take .ensures .moved .told .short, entry .pre .0 .2)
 
 same-length : tie.Need-same-length
 same-length c = search needs
@@ -38,10 +41,17 @@ returns c =
       (
         record {
           place = omega (arith, line .place);
-          written = rw (line .written) (splice-tail (a .lines .now) (a .filled) (stepOn (a .room .now) (a .place) (a .end) (a .report) (a .memory .now) .text) (omega (arith, start .pre .0 .1, start .pre .0 .2)));
+          written =
+              rw (line .written)
+              (splice-tail (a .lines .now) (a .filled)
+              (stepOn (a .room .now) (a .place) (a .end) (a .report) (a .memory .now) .text)
+              (omega (arith, start .pre .0 .1, start .pre .0 .2)));
         },
         (
-          record { lends = (rw (t .kept .1 .1 .1 .1 .0) (r .lends .0), rw (same-length-2 c) (r .lends .1)); keeps = t .ensures .keeps },
+          record {
+            lends = (rw (t .kept .1 .1 .1 .1 .0) (r .lends .0), rw (same-length-2 c) (r .lends .1));
+            keeps = t .ensures .keeps;
+          },
           rw (same-length-2 c) (omega (arith, t .ensures .moved .told .short, start .pre .0 .1, start .pre .0 .2)),
         ),
       ),

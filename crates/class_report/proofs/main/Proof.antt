@@ -6,6 +6,7 @@ use native.Mathlib.Omega.{arith}
 use borrow.Author.Needs.{needs}
 use lib.ListN.{length, replicate, length-replicate}
 use lib.Seq.{length-take-le}
+use Rattle.session.specs.Table.{words}
 use Rattle.sheet.specs.Printing.{Ready, ready-fresh}
 use Rattle.class.specs.declared.Report.{Report}
 use Rattle.class.specs.Steps.{begun}
@@ -18,7 +19,8 @@ use Rattle.class_report.proofs.main.Tie as tie
 
 abbrev Inv-loop : tie.InvT-loop
 Inv-loop memory₀ room₀ input₀ window₀ lines₀ filled₀ report₀ turns₀ memory room input window lines filled report turns =
-    Ready memory lines × (length memory ≡ 40518) × (length room ≡ 65536) × (length lines ≡ 16384) × (filled + 128 ≤ 16384) × InHalf (report .pending)
+    Ready memory lines × (length memory ≡ words) × (length room ≡ 65536) × (length lines ≡ 16384) × (filled + 128 ≤ 16384)
+    × InHalf (report .pending)
     × (length input ≡ 16384) × Inside window input × Ahead report (sizeOf window)
 
 abbrev μ-loop : tie.MeasureT-loop
@@ -36,11 +38,11 @@ begin-requires c κs = search needs
 loop-holds : tie.Need-loop-holds Inv-loop μ-loop
 unfolding begun
 loop-holds c =
-    let m = length-replicate {A = ℕ} 40518 0 in
+    let m = length-replicate {A = ℕ} words 0 in
     let b = length-replicate {A = ℕ} 65536 0 in
     let l = length-replicate {A = ℕ} 16384 0 in
     let w = c .before .before .write-fresh in (
-      ready-fresh (replicate 40518 0) _ (replicate 16384 0) (omega arith) (omega arith) (w .ensures .1),
+      ready-fresh (replicate words 0) _ (replicate 16384 0) (omega arith) (omega arith) (w .ensures .1),
       w .kept .0 ∙ m,
       b,
       l,
@@ -61,7 +63,9 @@ slice-aggregate-read-asked-2 : tie.Need-slice-aggregate-read-asked-2 Inv-loop μ
 slice-aggregate-read-asked-2 c = search needs
 
 read-asked-requires : tie.Need-read-asked-requires Inv-loop μ-loop
-read-asked-requires c κs = let i = c .before .before .before .before .loop .inv in ((i .6, i .7, i .8), (i .2, i .5, c .before .before .free-half .ensures))
+read-asked-requires c κs =
+    let i = c .before .before .before .before .loop .inv in
+    ((i .6, i .7, i .8), (i .2, i .5, c .before .before .free-half .ensures))
 
 slice-aggregate-gather : tie.Need-slice-aggregate-gather Inv-loop μ-loop
 slice-aggregate-gather c = search needs
@@ -85,7 +89,9 @@ array-share-prefix-lines : tie.Need-array-share-prefix-lines Inv-loop μ-loop
 array-share-prefix-lines c = c .before .before .before .before .before .before .gather .ensures .1 .1 .1
 
 slice-aggregate-write-all : tie.Need-slice-aggregate-write-all Inv-loop μ-loop
-slice-aggregate-write-all c = sym (length-take-le _ _ (c .before .before .before .before .before .before .before .gather .ensures .1 .1 .1))
+slice-aggregate-write-all c =
+    let at-gather = c .before .before .before .before .before .before .before in
+    sym (length-take-le _ _ (at-gather .gather .ensures .1 .1 .1))
 
 write-all-requires : tie.Need-write-all-requires Inv-loop μ-loop
 write-all-requires c κs = search needs
@@ -107,11 +113,14 @@ loop-less c = search needs
 
 loop-again : tie.Need-loop-again Inv-loop μ-loop
 loop-again c =
+    let at-read-asked = c .before .before .before .before .before .before .before
+    .before .before .before .before .before .before in
+    let at-free-half = at-read-asked .before .before .before in
     let g = c .before .before .before .before .before .before .before .gather .ensures in
-    let i = c .before .before .before .before .before .before .before .before .before .before .before .before .before .before .before .before .before .before .loop .inv in
-    let r = c .before .before .before .before .before .before .before .before .before .before .before .before .before .read-asked .ensures in
+    let i = at-free-half .before .before .loop .inv in
+    let r = at-read-asked .read-asked .ensures in
     let e = g .0 in
-    let h = step-half _ _ _ _ _ _ e (r .long ∙ i .2) (c .before .before .before .before .before .before .before .before .before .before .before .before .before .before .before .before .free-half .ensures) (i .5) in
+    let h = step-half _ _ _ _ _ _ e (r .long ∙ i .2) (at-free-half .free-half .ensures) (i .5) in
     let a = stepped-ahead _ _ _ _ _ _ e _ (r .inside) (r .few) in
     (g .1 .1 .0, search needs, search needs, search needs, c .write-full .ensures, h, search needs, r .window, a)
 

@@ -1,4 +1,4 @@
--- `class_report::write_full` meets its contract.
+-- `class_report::write_full` meets its contract: few bytes are kept, and what is written is a part of the lines.
 use mathlib.Core.Path.{sym}
 use native.Mathlib.Omega.{arith}
 use lib.Seq.{length-take-le}

@@ -1,3 +1,4 @@
+-- `class_words::code_of` meets its contract, stage by stage.
 use mathlib.Core.Path.{ap, sym}
 use Rattle.class_words.specs.Words.{codeOf}
 use borrow.Author.Needs.{needs}

@@ -1,3 +1,4 @@
+-- `class_words::is_held` meets its contract, by whether a sheet is pending.
 use mathlib.Core.Path.{ap, sym}
 use Rattle.class_words.specs.Words.{held}
 use borrow.Author.Needs.{needs}

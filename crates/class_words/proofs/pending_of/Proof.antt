@@ -1,3 +1,4 @@
+-- `class_words::pending_of` meets its contract, by the word that says whether a sheet is pending.
 use mathlib.Core.Path.{sym}
 use Rattle.rules.specs.Formula.{Formula._≐_}
 use Rattle.rules.specs.FormulaLaws.{choose-yes, choose-no}

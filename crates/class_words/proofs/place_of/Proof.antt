@@ -1,3 +1,4 @@
+-- `class_words::place_of` meets its contract: it reads the word of the place.
 use Rattle.class_words.specs.Words.{placeOf}
 use borrow.Author.Needs.{needs}
 use Rattle.class_words.proofs.place_of.Statement.{statement}

@@ -1,3 +1,4 @@
+-- `class_words::report_of` meets its contract: word by word, the stage by `stage_of`, the pending sheet by `pending_of`.
 use mathlib.Core.Path.{refl}
 use Rattle.class_words.specs.Words.{reportOf}
 use borrow.Author.Needs.{needs}

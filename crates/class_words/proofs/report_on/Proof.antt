@@ -1,3 +1,4 @@
+-- `class_words::report_on` meets its contract: words too few, a part that is refused, and a part whose report is written back.
 use native.Mathlib.Omega.{arith}
 use Rattle.class_words.specs.Words.{reports-short, reports-not, reports-done}
 use borrow.Author.Needs.{needs}
@@ -29,8 +30,14 @@ same-length-3 c = search needs
 
 returns-2 : tie.Need-returns-2
 returns-2 c =
-    let a = c .before .before .before .before .before .before .before .before .before .before .before .before .before .before .before .before .before .before .args in
-    let x = rw (c .before .before .before .before .before .before .before .before .before .before .before .place-of .ensures, c .before .before .before .before .before .before .before .before .before .report-of .ensures) at (c .before .before .before .before .before .before .report-part .ensures) in
+    let at-report-part = c .before .before .before .before .before .before in
+    let at-report-of = at-report-part .before .before .before in
+    let entry = at-report-of .before .before .before .before .before .before .before .before .before in
+    let a = entry .args in
+    let x = rw (
+      at-report-of .before .before .place-of .ensures,
+      at-report-of .report-of .ensures,
+    ) at (at-report-part .report-part .ensures) in
     reports-not (a .file .now) (a .state .now) (a .memory .now) (a .lines .now) _ _ _ (omega arith) x (λ e. omega arith)
 
 write-report-requires : tie.Need-write-report-requires
@@ -47,9 +54,17 @@ same-length-6 c = search needs
 
 returns-3 : tie.Need-returns-3
 returns-3 c =
-    let a = c .before .before .before .before .before .before .before .before .before .before .before .before .before .before .before .before .before .before .before .before .before .before .before .args in
-    let x = rw (c .before .before .before .before .before .before .before .before .before .before .before .before .before .before .before .before .place-of .ensures, c .before .before .before .before .before .before .before .before .before .before .before .before .before .before .report-of .ensures) at (c .before .before .before .before .before .before .before .before .before .before .before .report-part .ensures) in
-    reports-done (a .file .now) (a .state .now) (a .memory .now) (a .lines .now) _ _ _ (omega arith) x (omega arith) _ (c .before .before .write-report .ensures)
+    let at-if2 = c .before .before .before .before .before in
+    let at-report-of = at-if2 .before .before .before .before .before .before .before .before .before in
+    let entry = at-report-of .before .before .before .before .before .before .before .before .before in
+    let a = entry .args in
+    let x = rw (
+      at-report-of .before .before .place-of .ensures,
+      at-report-of .report-of .ensures,
+    ) at (at-if2 .before .before .before .before .before .before .report-part .ensures) in
+    reports-done (a .file .now) (a .state .now) (a .memory .now) (a .lines .now) _ _ _ (omega arith) x
+    (omega (arith, at-if2 .if2 .left)) _
+    (c .before .before .write-report .ensures)
 
 pub report-on-spec : {M : Type 1} → statement M
 report-on-spec =

@@ -1,3 +1,4 @@
+-- `class_words::stage_of` meets its contract, code by code; a code past the last has no stage (`stage-past`).
 use mathlib.Core.Path.{ap, sym}
 use native.Mathlib.Omega.{arith}
 use Rattle.class_words.specs.Words.{stageOf, stage-past, passed-by}
@@ -39,10 +40,15 @@ returns-8 c = ap stageOf (sym (c .match .keys8))
 returns-9 : tie.Need-returns-9
 returns-9 c =
     let n = c .before .args .code in
-    let r = c .match .rest in
-    stage-past n
-    (passed-by n 6 (r .0 .1) (passed-by n 5 (r .0 .0 .1) (passed-by n 4 (r .0 .0 .0 .1) (passed-by n 3 (r .0 .0 .0 .0 .1)
-    (passed-by n 2 (r .0 .0 .0 .0 .0 .1) (passed-by n 1 (r .0 .0 .0 .0 .0 .0 .1) (passed-by n 0 (r .0 .0 .0 .0 .0 .0 .0 .1) (omega arith)))))))) (r .1)
+    -- `not7 .1` says that the code is not 7, `not7 .0 .1` that it is not 6, ..
+    let not7 = c .match .rest in
+    let not5 = not7 .0 .0 in
+    let not3 = not5 .0 .0 in
+    let not1 = not3 .0 .0 in
+    let past1 = passed-by n 1 (not1 .1) (passed-by n 0 (not1 .0 .1) (omega arith)) in
+    let past3 = passed-by n 3 (not3 .1) (passed-by n 2 (not3 .0 .1) past1) in
+    let past5 = passed-by n 5 (not5 .1) (passed-by n 4 (not5 .0 .1) past3) in
+    stage-past n (passed-by n 6 (not7 .0 .1) past5) (not7 .1)
 
 pub stage-of-spec : {M : Type 1} → statement M
 stage-of-spec =

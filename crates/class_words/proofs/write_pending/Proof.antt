@@ -1,3 +1,4 @@
+-- `class_words::write_pending` meets its contract: the five words of the pending sheet, set one after the other.
 use mathlib.Core.Path.{refl}
 use native.Mathlib.Omega.{arith}
 use lib.ListN.{length-set}

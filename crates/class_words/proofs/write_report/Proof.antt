@@ -1,3 +1,4 @@
+-- `class_words::write_report` meets its contract: the words set one after the other are the report's, by `puts-splice`.
 use native.Mathlib.Omega.{arith}
 use lib.ListN.{length-set}
 use Rattle.class_words.specs.Words.{wordsOf, puts, puts-splice}

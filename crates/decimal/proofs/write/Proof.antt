@@ -59,7 +59,11 @@ loop-again c =
       l .inv .2,
       place,
       omega arith,
-      rw (place, splice-behind-first (l .out) at (l .rest % 10 + 48) (decimal (l .rest / 10)) (omega arith), ← decimal-several (l .rest) big) (l .inv .5),
+      rw (
+        place,
+        splice-behind-first (l .out) at (l .rest % 10 + 48) (decimal (l .rest / 10)) (omega arith),
+        ← decimal-several (l .rest) big,
+      ) (l .inv .5),
     )
 
 add-out-2 : tie.Need-add-out-2 Inv-loop μ-loop

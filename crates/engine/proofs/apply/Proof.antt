@@ -1,3 +1,5 @@
+-- `engine::apply` meets its contract: memory too short is refused (`answered-short`), a session not sound too
+-- (`answered-unsound`), and what `apply_sound` replies answers one that is (`answered-sound`).
 use Prim.Native.Nat.{_≤_}
 use mathlib.Core.Path.{sym, _∙_}
 use native.Mathlib.Omega.{arith}
@@ -22,7 +24,8 @@ returns-2 : tie.Need-returns-2
 returns-2 c =
     let a = c .before .before .before .before .before .args in
     let long : words ≤ length (a .memory .now) = omega arith in
-    answered-unsound (a .memory .now) (a .op) long (memory-unsound (a .memory .now) long (sym (c .before .is-sound .ensures) ∙ not-true _ (c .if2 .taken)))
+    answered-unsound (a .memory .now) (a .op) long
+    (memory-unsound (a .memory .now) long (sym (c .before .is-sound .ensures) ∙ not-true _ (c .if2 .taken)))
 
 apply-sound-requires : tie.Need-apply-sound-requires
 apply-sound-requires c κs =

@@ -1,3 +1,4 @@
+-- `library::faltxigor_sound` meets its contract: what `is_sound` answered, as a number.
 use mathlib.Core.Path.{sym, _∙_}
 use borrow.Author.Needs.{needs}
 use borrow.Author.Tests.{not-true, not-false}

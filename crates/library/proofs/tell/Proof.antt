@@ -1,3 +1,4 @@
+-- `library::tell` meets its contract, by the two kinds of answer.
 use mathlib.Core.Path.{refl}
 use Rattle.rules.specs.Answer.{refusedOf, madeOf}
 use borrow.Author.Needs.{needs}

@@ -1,3 +1,4 @@
+-- `lines::put_line` meets its contract: a line put at the start of the tail is one put at its place, by `splice-tail`.
 use native.Mathlib.Omega.{arith}
 use Rattle.lines.specs.Line.{line}
 use Rattle.lines.specs.LineLaws.{splice-tail}

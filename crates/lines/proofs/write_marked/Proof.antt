@@ -1,3 +1,4 @@
+-- `lines::write_marked` meets its contract: the digits and then the mark, by `splice-marked`.
 use native.Mathlib.Omega.{arith}
 use Rattle.lines.specs.LineLaws.{marked-length, splice-marked}
 use borrow.Author.Needs.{needs}

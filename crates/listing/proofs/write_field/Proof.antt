@@ -14,7 +14,8 @@ write-bytes-requires : tie.Need-write-bytes-requires
 write-bytes-requires c κs = let a = c .before .before .before .args in omega (arith, field-length (a .v))
 
 write-requires : tie.Need-write-requires
-write-requires c κs = let a = c .before .before .before .before .before .before .before .args in omega (arith, field-length (a .v))
+write-requires c κs =
+    let a = c .before .before .before .before .before .before .before .args in omega (arith, field-length (a .v))
 
 same-length : tie.Need-same-length
 same-length c = search needs

@@ -50,7 +50,9 @@ loop-again c =
       l .inv .1,
       l .inv .2,
       c .before .before .write-field .kept .1 .0 ∙ l .inv .3,
-      rw (fields-more (l .k) f) (put-then (omega (arith, fields-room (a .n) (l .k) f (omega arith))) (l .inv .4) (c .before .before .write-field .ensures)),
+      rw (fields-more (l .k) f)
+          (put-then (omega (arith, fields-room (a .n) (l .k) f (omega arith))) (l .inv .4)
+          (c .before .before .write-field .ensures)),
     )
 
 same-length : tie.Need-same-length Inv-loop μ-loop

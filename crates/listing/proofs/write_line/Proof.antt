@@ -2,8 +2,7 @@
 use native.Mathlib.Omega.{arith}
 use Rattle.decimal.specs.Decimal.{decimal}
 use Rattle.rules.specs.Step.{arg}
-use Rattle.record.specs.Reading.{fieldCount}
-use Rattle.listing.specs.Names.{nameOf}
+use Rattle.rules.specs.Arity.{fieldCount, nameOf}
 use Rattle.listing.specs.Listing.{mark, newline, fieldsText, line}
 use Rattle.listing.specs.ListingLaws.{put-five, line-length}
 use borrow.Author.Needs.{needs}
@@ -58,7 +57,15 @@ write-bytes-requires-2 c κs =
     let start = number .before .before .before .before in
     let n = fields .before .before .field-count .ensures .0 in
     let f = rw n at (fields .write-fields .ensures .place) in
-    omega (arith, line-length (start .args .op), start .pre .1, number .write .ensures .0, f, sign .write-bytes .ensures .place, name .write-name .ensures .place)
+    omega (
+      arith,
+      line-length (start .args .op),
+      start .pre .1,
+      number .write .ensures .0,
+      f,
+      sign .write-bytes .ensures .place,
+      name .write-name .ensures .place,
+    )
 
 same-length : tie.Need-same-length
 same-length c = search needs

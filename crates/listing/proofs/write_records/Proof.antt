@@ -39,7 +39,9 @@ write-refusal-requires c κs =
     omega (arith, ap length e)
 
 same-length : tie.Need-same-length Inv-loop μ-loop
-same-length c = c .before .before .write-refusal .kept .1 .1 .0 ∙ c .before .before .before .before .before .before .before .loop .inv .1
+same-length c =
+    let at-loop = c .before .before .before .before .before .before .before in
+    c .before .before .write-refusal .kept .1 .1 .0 ∙ at-loop .loop .inv .1
 
 returns : tie.Need-returns Inv-loop μ-loop
 returns c =
@@ -48,7 +50,8 @@ returns c =
     let read = test .before in
     let l = read .before .before .loop in
     let a = read .before .before .before .before .before .args in
-    let e = left-refused (a .sheet .now) (l .k) (l .at) (omega arith) (l .inv .0) _ (read .read-record .ensures) (test .if1 .taken) in
+    let e = left-refused (a .sheet .now) (l .k) (l .at) (omega arith) (l .inv .0) _ (read .read-record .ensures)
+    (test .if1 .taken) in
     rw (← left-start (a .sheet .now) (a .first))
     (record {
       place = omega (arith, w .place, ap length e);
@@ -91,7 +94,8 @@ loop-again c =
       c .before .before .write-line .kept .1 .0 ∙ l .inv .1,
       l .inv .2,
       omega (arith, w .place),
-      rw (w .written, w .place) (splice-then (l .out) (l .used) _ _ (omega arith)) ∙ ap (splice (l .out) (l .used)) (sym e) ∙ l .inv .4,
+      rw (w .written, w .place) (splice-then (l .out) (l .used) _ _ (omega arith)) ∙ ap (splice (l .out) (l .used)) (sym e)
+          ∙ l .inv .4,
     )
 
 same-length-2 : tie.Need-same-length-2 Inv-loop μ-loop

@@ -14,7 +14,8 @@ write-bytes-requires : tie.Need-write-bytes-requires
 write-bytes-requires c κs = let a = c .before .before .before .args in omega (arith, refusal-length (a .k) (a .refused))
 
 write-requires : tie.Need-write-requires
-write-requires c κs = let a = c .before .before .before .before .before .before .before .args in omega (arith, refusal-length (a .k) (a .refused))
+write-requires c κs =
+    let a = c .before .before .before .before .before .before .before .args in omega (arith, refusal-length (a .k) (a .refused))
 
 slice-aggregate-write-bytes-2 : tie.Need-slice-aggregate-write-bytes-2
 slice-aggregate-write-bytes-2 c = search needs
@@ -33,7 +34,14 @@ write-requires-2 c κs =
     let head = number .before .before .before .before in
     let start = head .before .before .before .before in
     let a = start .args in
-    omega (arith, refusal-length (a .k) (a .refused), start .pre, head .write-bytes .ensures .place, number .write .ensures .0, middle .write-bytes2 .ensures .place)
+    omega (
+      arith,
+      refusal-length (a .k) (a .refused),
+      start .pre,
+      head .write-bytes .ensures .place,
+      number .write .ensures .0,
+      middle .write-bytes2 .ensures .place,
+    )
 
 slice-aggregate-write-bytes-3 : tie.Need-slice-aggregate-write-bytes-3
 slice-aggregate-write-bytes-3 c = search needs
@@ -46,7 +54,15 @@ write-bytes-requires-3 c κs =
     let head = number .before .before .before .before in
     let start = head .before .before .before .before in
     let a = start .args in
-    omega (arith, refusal-length (a .k) (a .refused), start .pre, head .write-bytes .ensures .place, number .write .ensures .0, middle .write-bytes2 .ensures .place, refusal .write2 .ensures .0)
+    omega (
+      arith,
+      refusal-length (a .k) (a .refused),
+      start .pre,
+      head .write-bytes .ensures .place,
+      number .write .ensures .0,
+      middle .write-bytes2 .ensures .place,
+      refusal .write2 .ensures .0,
+    )
 
 same-length : tie.Need-same-length
 same-length c = search needs

@@ -13,7 +13,8 @@ use Rattle.listing.proofs.write_text.Statement.{statement}
 use Rattle.listing.proofs.write_text.Tie as tie
 
 -- The text has the room that the caller has shown.
-fits : (c : tie.After-slice-known) → length (textOf (c .before .before .args .sheet .now)) ≤ length (c .before .before .args .out .now)
+fits : (c : tie.After-slice-known)
+    → length (textOf (c .before .before .args .sheet .now)) ≤ length (c .before .before .args .out .now)
 fits c =
     let sheet = c .before .before .args .sheet .now in
     let are : AreBytes sheet = λ i. omega (arith, c .before .shared-slice-known .given i) in
@@ -67,10 +68,11 @@ same-length-2 c = search needs
 
 returns-2 : tie.Need-returns-2
 returns-2 c =
-    let told = c .before .before .before .before .before .before .before .before .before .before in
+    let at-write-bytes = c .before .before .before .before .before .before in
+    let told = at-write-bytes .before .before .before .before in
     let head = told .before .before in
     let e = text-behind _ _ (sym (head .read-head .ensures) ∙ told .first .given .1) in
-    rw e (put-then (omega arith) (c .before .before .before .before .before .before .write-bytes .ensures) (c .before .before .write-records .ensures))
+    rw e (put-then (omega arith) (at-write-bytes .write-bytes .ensures) (c .before .before .write-records .ensures))
 
 pub write-text-spec : {M : Type 1} → statement M
 write-text-spec =

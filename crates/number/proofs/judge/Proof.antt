@@ -8,7 +8,7 @@ use borrow.Author.Needs.{needs}
 use lib.ListN.{length, drop}
 use Rattle.number.specs.Number.{value, shortest}
 use Rattle.number.specs.Decode.{shortest-one}
-use Rattle.number.specs.Cases.{judged-long, judged-above, judged-value}
+use Rattle.number.specs.NumberCases.{judged-long, judged-above, judged-value}
 use Rattle.number.proofs.Steps.{value-none, value-step, judged-early, shortest-yes, shortest-no}
 use Rattle.number.specs.declared.Reading.the-variants.{Value}
 use Rattle.number.proofs.judge.Statement.{statement}

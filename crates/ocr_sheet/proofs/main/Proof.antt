@@ -6,13 +6,14 @@ use native.Mathlib.Omega.{arith}
 use borrow.Author.Needs.{needs}
 use lib.ListN.{length, take, replicate, length-replicate}
 use lib.Seq.{length-take-le}
+use Rattle.session.specs.Table.{words}
 use Rattle.sheet.specs.PartOf.{partsLeft}
 use Rattle.sheet.specs.Printing.{Ready, ready-fresh, ready-next, parts-fewer}
 use Rattle.ocr_sheet.proofs.main.Statement.{statement}
 use Rattle.ocr_sheet.proofs.main.Tie as tie
 
 abbrev Inv-loop : tie.InvT-loop
-Inv-loop bytes n memory₀ lines₀ next₀ memory lines next = Ready memory lines × (length memory ≡ 40518) × (length lines ≡ 16384)
+Inv-loop bytes n memory₀ lines₀ next₀ memory lines next = Ready memory lines × (length memory ≡ words) × (length lines ≡ 16384)
 
 abbrev μ-loop : tie.MeasureT-loop
 μ-loop bytes n memory₀ lines₀ next₀ memory lines next = partsLeft (take n bytes) next
@@ -31,9 +32,10 @@ write-fresh-requires c κs = search needs
 
 loop-holds : tie.Need-loop-holds Inv-loop μ-loop
 loop-holds c =
-    let m = length-replicate {A = ℕ} 40518 0 in
+    let m = length-replicate {A = ℕ} words 0 in
     let n = length-replicate {A = ℕ} 16384 0 in
-    (ready-fresh (replicate 40518 0) _ (replicate 16384 0) (omega arith) (omega arith) (c .before .write-fresh .ensures .1), c .before .write-fresh .kept .0 ∙ m, n)
+    let w = c .before .write-fresh in
+    (ready-fresh (replicate words 0) _ (replicate 16384 0) (omega arith) (omega arith) (w .ensures .1), w .kept .0 ∙ m, n)
 
 array-share-prefix-bytes : tie.Need-array-share-prefix-bytes Inv-loop μ-loop
 array-share-prefix-bytes c = search needs
@@ -74,8 +76,9 @@ loop-less c =
 
 loop-again : tie.Need-loop-again Inv-loop μ-loop
 loop-again c =
+    let at-loop = c .before .before .before .before .before .before .before .before .before in
     let r = c .before .before .before .before .before .run-part-from in
-    (ready-next _ _ _ _ _ _ _ (r .ensures) (c .before .before .before .before .before .before .before .before .before .loop .inv .0) (r .kept .1 .1 .1 .0), search needs, search needs)
+    (ready-next _ _ _ _ _ _ _ (r .ensures) (at-loop .loop .inv .0) (r .kept .1 .1 .1 .0), search needs, search needs)
 
 pub main-spec : {M : Type 1} → statement M
 main-spec =

@@ -31,7 +31,8 @@ returns c =
     let l = c .before .before .before .before .before .loop in
     let a = c .before .before .before .before .before .before .before .args in
     c .refuse .ensures
-    ∙ sym (passed-cut _ _ (l .k) (l .fields) (l .refused) (l .next) (l .inv .1) (a .code) (a .n) (omega arith) (sym (c .before .before .before .read .ensures) ∙ c .before .enum-told .given .1))
+    ∙ sym (passed-cut _ _ (l .k) (l .fields) (l .refused) (l .next) (l .inv .1) (a .code) (a .n) (omega arith)
+    (sym (c .before .before .before .read .ensures) ∙ c .before .enum-told .given .1))
 
 enum-known-past : tie.Need-enum-known-past Inv-loop μ-loop
 enum-known-past c = search needs
@@ -57,8 +58,10 @@ loop-again c =
     let read = sym (c .before .read .ensures) in (
       omega arith,
       ⊎-elim
-          (λ w. rw (w .3, w .4, w .5) (passed-bad _ _ (l .k) (l .fields) (l .refused) (l .next) (l .inv .1) _ (read ∙ w .1 .given .1)))
-          (λ w. rw (w .3, w .4, w .5) (passed-value _ _ (l .k) (l .fields) (l .refused) (l .next) (l .inv .1) _ _ (omega arith) (read ∙ w .1 .given .1)))
+          (λ w. rw (w .3, w .4, w .5)
+          (passed-bad _ _ (l .k) (l .fields) (l .refused) (l .next) (l .inv .1) _ (read ∙ w .1 .given .1)))
+          (λ w. rw (w .3, w .4, w .5)
+          (passed-value _ _ (l .k) (l .fields) (l .refused) (l .next) (l .inv .1) _ _ (omega arith) (read ∙ w .1 .given .1)))
           (c .match .came),
     )
 

@@ -24,10 +24,14 @@ returns-2 : tie.Need-returns-2
 returns-2 c = sym (head-bad _ _ (sym (c .before .before .read .ensures) ∙ c .enum-told2 .given .1))
 
 returns-3 : tie.Need-returns-3
-returns-3 c = sym (head-one _ _ _ (sym (c .before .before .before .before .read .ensures) ∙ c .before .before .version .given .1) (c .if1 .taken))
+returns-3 c =
+    let at-read = c .before .before .before .before in
+    sym (head-one _ _ _ (sym (at-read .read .ensures) ∙ c .before .before .version .given .1) (c .if1 .taken))
 
 returns-4 : tie.Need-returns-4
-returns-4 c = sym (head-other _ _ _ (sym (c .before .before .before .before .read .ensures) ∙ c .before .before .version .given .1) (c .if1 .left))
+returns-4 c =
+    let at-read = c .before .before .before .before in
+    sym (head-other _ _ _ (sym (at-read .read .ensures) ∙ c .before .before .version .given .1) (c .if1 .left))
 
 pub read-head-spec : {M : Type 1} → statement M
 read-head-spec =

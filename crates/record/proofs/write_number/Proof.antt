@@ -23,19 +23,25 @@ same-length c = search needs
 
 returns : tie.Need-returns
 returns c =
-    let a = c .before .before .before .before .before .before .before .before .args in
-    let w = c .before .before .before .before .before .write .ensures in
-    let fits : a .at + length (encode (a .v)) ≤ length (a .out .now) = c .before .before .before .before .before .before .before .before .pre in
-    (cc (w .0, c .before .next .given .1, written-fits (a .v) (a .out .now) (a .at) fits), w .1 ∙ memory-fits (a .v) (a .out .now) (a .at) fits)
+    let at-write = c .before .before .before .before .before in
+    let entry = at-write .before .before .before in
+    let a = entry .args in
+    let w = at-write .write .ensures in
+    let fits : a .at + length (encode (a .v)) ≤ length (a .out .now) = entry .pre in (
+      cc (w .0, c .before .next .given .1, written-fits (a .v) (a .out .now) (a .at) fits),
+      w .1 ∙ memory-fits (a .v) (a .out .now) (a .at) fits,
+    )
 
 same-length-2 : tie.Need-same-length-2
 same-length-2 c = search needs
 
 returns-2 : tie.Need-returns-2
 returns-2 c =
-    let a = c .before .before .before .before .before .before .before .args in
-    let w = c .before .before .before .before .write .ensures in
-    let fits : a .at + length (encode (a .v)) ≤ length (a .out .now) = c .before .before .before .before .before .before .before .pre in
+    let at-write = c .before .before .before .before in
+    let entry = at-write .before .before .before in
+    let a = entry .args in
+    let w = at-write .write .ensures in
+    let fits : a .at + length (encode (a .v)) ≤ length (a .out .now) = entry .pre in
     let z : _≡_ {A = ℕ} 0 1 = cc (w .0, c .enum-told .given .1, written-fits (a .v) (a .out .now) (a .at) fits) in
     absurd (omega arith)
 

@@ -26,7 +26,14 @@ loop-holds : tie.Need-loop-holds Inv-loop μ-loop
 loop-holds c =
     let s = c .before .before .before .before .before in
     let w = c .before .before .write-number in
-    put-none _ _ _ _ (omega (arith, w .ensures .0, w .kept .1 .0, s .pre .1, length-append (encode (s .args .code)) (fieldBytes (s .args .n) (λ j. getD (s .args .t2) j 0))))
+    put-none _ _ _ _
+    (omega (
+      arith,
+      w .ensures .0,
+      w .kept .1 .0,
+      s .pre .1,
+      length-append (encode (s .args .code)) (fieldBytes (s .args .n) (λ j. getD (s .args .t2) j 0)),
+    ))
 
 mul-write-number : tie.Need-mul-write-number Inv-loop μ-loop
 mul-write-number c = omega (arith, c .before .loop .inv .count)
@@ -45,8 +52,9 @@ loop-less c = omega arith
 
 loop-again : tie.Need-loop-again Inv-loop μ-loop
 loop-again c =
+    let at-loop-test = c .before .before .before .before in
     let w = c .before .before .write-number2 in
-    rw (w .ensures .0, w .ensures .1) (put-more _ _ _ _ _ _ _ (c .before .before .before .before .before .loop .inv) (c .before .before .before .before .loop-test .taken))
+    rw (w .ensures .0, w .ensures .1) (put-more _ _ _ _ _ _ _ (at-loop-test .before .loop .inv) (at-loop-test .loop-test .taken))
 
 same-length : tie.Need-same-length Inv-loop μ-loop
 same-length c = put-length _ _ _ _ _ _ _ (c .before .loop .inv) ∙ c .before .before .before .before .write-number .kept .1 .0
@@ -56,7 +64,8 @@ returns c =
     let l = c .before .loop in
     let s = c .before .before .before .before .before .before .before in
     let w = c .before .before .before .before .write-number in
-    put-all _ _ _ (s .args .n) (l .k) (l .out) (l .at) (l .inv) (c .loop-test .left) (s .args .out .now) (s .args .used) (s .args .code) (room s) (w .ensures .0) (w .ensures .1)
+    put-all _ _ _ (s .args .n) (l .k) (l .out) (l .at) (l .inv) (c .loop-test .left) (s .args .out .now) (s .args .used)
+    (s .args .code) (room s) (w .ensures .0) (w .ensures .1)
 
 pub write-numbers-spec : {M : Type 1} → statement M
 write-numbers-spec =

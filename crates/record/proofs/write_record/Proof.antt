@@ -1,19 +1,20 @@
 -- `record::write_record` meets its contract, by the first check that fails.
 use mathlib.Core.Path.{_≡_, sym, _∙_}
 use native.Mathlib.Omega.{arith}
-use Rattle.rules.specs.Arity.{isCode}
+use Rattle.rules.specs.Arity.{isCode, fieldCount, fields-few}
 use Rattle.rules.specs.Formula.{holds}
 use Rattle.rules.specs.FormulaLaws.{passed, failed}
-use Rattle.record.specs.Reading.{fieldCount}
-use Rattle.record.specs.Cases.{arity-known, arity-unknown}
-use Rattle.record.specs.Laws.{count-five}
+use Rattle.record.specs.RecordCases.{arity-known, arity-unknown}
 use Rattle.record.proofs.WriteSteps.{no-room, code-above, code-unknown, field-above, bytes-fit, written}
 use borrow.Author.Needs.{needs}
 use Rattle.record.proofs.write_record.Statement.{statement}
 use Rattle.record.proofs.write_record.Tie as tie
 
 -- in the arm that has the number of fields the code is known
-known : (c : tie.After-n) → holds (isCode (c .before .before .before .before .before .before .before .args .op .code)) × (c .n .given .0 .0 ≡ fieldCount (c .before .before .before .before .before .before .before .args .op .code))
+known : (c : tie.After-n) → (
+    let code = c .before .before .before .before .before .before .before .args .op .code in
+    holds (isCode code) × (c .n .given .0 .0 ≡ fieldCount code)
+    )
 known c = arity-known _ _ (sym (c .before .before .arity-of .ensures) ∙ c .n .given .1)
 
 returns : tie.Need-returns
@@ -46,34 +47,40 @@ enum-known-n c = search needs
 all-within-requires : tie.Need-all-within-requires
 all-within-requires c κs =
     let k = known (c .before .before) in
-    rw (k .1) (count-five _ (k .0))
+    rw (k .1) (fields-few _ (k .0))
 
 write-numbers-requires : tie.Need-write-numbers-requires
 write-numbers-requires c κs =
     let k = known (c .before .before .before .before .before) in
     let a = c .before .before .before .before .before .before .before .before .before .before .before .before .args in
-    bytes-fit (a .op) (a .out .now) (a .used) (omega arith) (omega arith) (k .0) _ (k .1) (passed _ (sym (c .before .before .all-within .ensures) ∙ c .before .if4 .taken))
+    bytes-fit (a .op) (a .out .now) (a .used) (omega arith) (omega arith) (k .0) _ (k .1)
+    (passed _ (sym (c .before .before .all-within .ensures) ∙ c .before .if4 .taken))
 
 returns-4 : tie.Need-returns-4
 returns-4 c =
     let a = c .before .before .before .before .before .before .before .args in
-    code-unknown (a .op) (a .out .now) (a .used) (omega arith) (omega arith) (arity-unknown _ (sym (c .before .before .arity-of .ensures) ∙ c .enum-told .given .1))
+    code-unknown (a .op) (a .out .now) (a .used) (omega arith) (omega arith)
+    (arity-unknown _ (sym (c .before .before .arity-of .ensures) ∙ c .enum-told .given .1))
 
 same-length : tie.Need-same-length
 same-length c = search needs
 
 returns-5 : tie.Need-returns-5
 returns-5 c =
-    let k = known (c .before .before .before .before .before .before .before .before) in
+    let at-if4 = c .before .before .before .before in
+    let entry = at-if4 .before .before .before .before .before .before .before .before .before .before .before in
+    let k = known (at-if4 .before .before .before .before) in
     let w = c .before .before .write-numbers .ensures in
-    let a = c .before .before .before .before .before .before .before .before .before .before .before .before .before .before .before .args in
-    written (a .op) (a .out .now) (a .used) (omega arith) (omega arith) (k .0) _ (k .1) (passed _ (sym (c .before .before .before .before .before .all-within .ensures) ∙ c .before .before .before .before .if4 .taken)) _ _ (w .0) (w .1)
+    let a = entry .args in
+    written (a .op) (a .out .now) (a .used) (omega arith) (omega arith) (k .0) _ (k .1)
+    (passed _ (sym (at-if4 .before .all-within .ensures) ∙ at-if4 .if4 .taken)) _ _ (w .0) (w .1)
 
 returns-6 : tie.Need-returns-6
 returns-6 c =
     let k = known (c .before .before .before .before) in
     let a = c .before .before .before .before .before .before .before .before .before .before .before .args in
-    field-above (a .op) (a .out .now) (a .used) (omega arith) (omega arith) (k .0) _ (k .1) (failed _ (sym (c .before .all-within .ensures) ∙ c .if4 .left))
+    field-above (a .op) (a .out .now) (a .used) (omega arith) (omega arith) (k .0) _ (k .1)
+    (failed _ (sym (c .before .all-within .ensures) ∙ c .if4 .left))
 
 pub write-record-spec : {M : Type 1} → statement M
 write-record-spec =

@@ -1,3 +1,5 @@
+-- `session::clear` meets its contract: from i zeros to i + 1 (`zeros-more`), and the words past the layout stay (`drop-past`).
+-- All zeros are the empty session (`zeros-empty`).
 use Prim.Native.Nat.{ℕ, _<_, _≤_, _-_}
 use mathlib.Core.Path.{_≡_, refl, _∙_}
 use native.Mathlib.Omega.{arith}
@@ -9,7 +11,8 @@ use Rattle.session.proofs.clear.Tie as tie
 
 abbrev Inv-loop : tie.InvT-loop
 Inv-loop s₀ i₀ s i =
-    (i ≤ words) × (words ≤ length s₀) × (length s ≡ length s₀) × ((k : ℕ) → k < i → getD s k 0 ≡ 0) × (drop words s ≡ drop words s₀)
+    (i ≤ words) × (words ≤ length s₀) × (length s ≡ length s₀) × ((k : ℕ) → k < i → getD s k 0 ≡ 0) ×
+    (drop words s ≡ drop words s₀)
 
 abbrev μ-loop : tie.MeasureT-loop
 μ-loop s₀ i₀ s i = words - i
@@ -35,8 +38,14 @@ loop-less c = omega arith
 loop-again : tie.Need-loop-again Inv-loop μ-loop
 loop-again c =
     let l = c .before .loop in
-    let i = l .inv in
-    (omega arith, i .1, simp length-set (i .2), zeros-more (l .s) (l .i) (omega arith) (i .3), drop-past (l .s) (l .i) (omega arith) ∙ i .4)
+    let i = l .inv in (
+      omega arith,
+      i .1,
+      simp length-set (i .2),
+      zeros-more (l .s) (l .i) (omega arith) (i .3),
+      drop-past (l .s) (l .i)
+          (omega arith) ∙ i .4,
+    )
 
 same-length : tie.Need-same-length Inv-loop μ-loop
 same-length c = c .before .loop .inv .2

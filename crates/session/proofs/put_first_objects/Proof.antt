@@ -1,3 +1,4 @@
+-- `session::put_first_objects` meets its contract: its six writes into the empty session, one after another (`wrote-more`).
 use borrow.Author.Needs.{needs}
 use Rattle.session.specs.Names.{block, task, fresh, resolved}
 use Rattle.session.specs.Fresh.{firstObjects}
@@ -41,7 +42,8 @@ returns c =
     (wrote-more TaskState 2 resolved
     (wrote-more BlockState 1 fresh
     (wrote-more Kind 2 task
-    (wrote-more Kind 1 block (wrote-more Objects 0 2 (rw (empty .pre .1) at (wrote-none (empty .args .s .now))) (one .set .ensures)) (two .set2 .ensures))
+    (wrote-more Kind 1 block
+    (wrote-more Objects 0 2 (rw (empty .pre .1) at (wrote-none (empty .args .s .now))) (one .set .ensures)) (two .set2 .ensures))
     (three .set3 .ensures))
     (four .set4 .ensures))
     (five .set5 .ensures))

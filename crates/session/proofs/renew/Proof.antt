@@ -1,3 +1,4 @@
+-- `session::renew` meets its contract: tidy and cleared where used is empty (`used-cleared`); then as a fresh one (`wrote-then`).
 use borrow.Author.Needs.{needs}
 use native.Mathlib.Omega.{arith}
 use mathlib.Core.Path.{_∙_}
@@ -23,14 +24,18 @@ add-links c =
     let start = c .before .before .before .before .before in
     omega (arith, c .get2 .ensures, tidy-links (read (start .args .s .now)) (start .pre .1))
 
-clear-up-to-requires : tie.Need-clear-up-to-requires
-clear-up-to-requires c κs =
+clear-used-requires : tie.Need-clear-used-requires
+clear-used-requires c κs =
     let second = c .before in
     let first = second .before .before in
     let start = first .before .before .before in
     let s = read (start .args .s .now) in
-    let tidy = start .pre .1 in
-    (search needs, omega (arith, first .get .ensures, tidy-objects s tidy), omega (arith, second .get2 .ensures, tidy-links s tidy))
+    let tidy = start .pre .1 in (
+      search needs,
+      omega (arith, first .get .ensures, tidy-objects s tidy),
+      omega
+          (arith, second .get2 .ensures, tidy-links s tidy),
+    )
 
 put-first-objects-requires : tie.Need-put-first-objects-requires
 put-first-objects-requires c κs =
@@ -38,8 +43,11 @@ put-first-objects-requires c κs =
     let second = clear .before .before in
     let first = second .before .before in
     let start = first .before .before .before in
-    let e = clear .clear-up-to .ensures .reading in
-    (search needs, (rw (first .get .ensures, second .get2 .ensures) at e) ∙ used-cleared (read (start .args .s .now)) (start .pre .1))
+    let e = clear .clear-used .ensures .reading in (
+      search needs,
+      (rw (first .get .ensures, second .get2 .ensures) at e) ∙ used-cleared (read (start .args .s .now))
+          (start .pre .1),
+    )
 
 satisfy-main-requires : tie.Need-satisfy-main-requires
 satisfy-main-requires c κs = search needs
@@ -52,7 +60,7 @@ returns c =
     let main = c .before .before in
     let first = main .before .before .before .before in
     let clear = first .before .before .before .before in
-    wrote-then (clear .clear-up-to .ensures) (wrote-then (first .put-first-objects .ensures) (main .satisfy-main .ensures))
+    wrote-then (clear .clear-used .ensures) (wrote-then (first .put-first-objects .ensures) (main .satisfy-main .ensures))
 
 pub renew-spec : {M : Type 1} → statement M
 renew-spec =
@@ -62,7 +70,7 @@ renew-spec =
     add-handles
     get-requires-2
     add-links
-    clear-up-to-requires
+    clear-used-requires
     put-first-objects-requires
     satisfy-main-requires
     same-length

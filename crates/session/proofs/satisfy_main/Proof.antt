@@ -1,3 +1,4 @@
+-- `session::satisfy_main` meets its contract: its three writes to slot 32, one after another (`wrote-more`).
 use borrow.Author.Needs.{needs}
 use Rattle.session.specs.Names.{modeRW, satisfied}
 use Rattle.session.specs.Table.{at}

@@ -1,3 +1,4 @@
+-- `session::write_fresh` meets its contract: short memory stays (`leaves-short`); long memory gets three writes (`wrote-then`).
 use borrow.Author.Needs.{needs}
 use Prim.Native.Nat.{_<_, _≤_}
 use mathlib.Core.Path.{refl}
@@ -13,8 +14,11 @@ use Rattle.session.proofs.write_fresh.Tie as tie
 
 returns : tie.Need-returns
 returns c =
-    let short : length (c .before .before .args .s .now) < words = omega arith in
-    (rw (lt-leb words (length (c .before .before .args .s .now)) short) refl, leaves-short (c .before .before .args .s .now) freshSession short)
+    let short : length (c .before .before .args .s .now) < words = omega arith in (
+      rw (lt-leb words (length (c .before .before .args .s .now)) short) refl,
+      leaves-short
+          (c .before .before .args .s .now) freshSession short,
+    )
 
 clear-requires : tie.Need-clear-requires
 clear-requires c κs = search needs
@@ -34,8 +38,11 @@ returns-2 c =
     let first = main .before .before .before .before in
     let clear = first .before .before .before .before in
     let ws = clear .before .before .before .before .args .s .now in
-    let long : words ≤ length ws = omega arith in
-    (rw (le-leb words (length ws) long) refl, leaves-written long (wrote-then (clear .clear .ensures) (wrote-then (first .put-first-objects .ensures) (main .satisfy-main .ensures))))
+    let long : words ≤ length ws = omega arith in (
+      rw (le-leb words (length ws) long) refl,
+      leaves-written long
+          (wrote-then (clear .clear .ensures) (wrote-then (first .put-first-objects .ensures) (main .satisfy-main .ensures))),
+    )
 
 pub write-fresh-spec : {M : Type 1} → statement M
 write-fresh-spec =

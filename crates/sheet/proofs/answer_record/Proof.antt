@@ -18,9 +18,10 @@ enum-known-made c = search needs
 put-answer-requires : tie.Need-put-answer-requires
 unfolding refusedOf madeOf
 put-answer-requires c κs =
-    let s = c .before .before .before .before .before .before .before .before .before .before in
+    let at-apply-sound = c .before .before .before .before .before .before in
+    let s = at-apply-sound .before .before .before .before in
     let small = reply-small (read (s .args .memory .now)) (s .args .op) (s .pre .1) in
-    let k = rw (c .before .before .made .given .1) at (numbers _ _ (c .before .before .before .before .before .before .apply-sound .ensures)) in
+    let k = rw (c .before .before .made .given .1) at (numbers _ _ (at-apply-sound .apply-sound .ensures)) in
     let b : c .before .before .made .given .0 .0 < 10000 = rw (k .1) (small .1) in
     (s .pre .2, omega (arith, b), omega (arith, b))
 
@@ -30,9 +31,10 @@ enum-known-refused c = search needs
 put-answer-requires-2 : tie.Need-put-answer-requires-2
 unfolding refusedOf madeOf
 put-answer-requires-2 c κs =
-    let s = c .before .before .before .before .before .before .before .before .before .before in
+    let at-apply-sound = c .before .before .before .before .before .before in
+    let s = at-apply-sound .before .before .before .before in
     let small = reply-small (read (s .args .memory .now)) (s .args .op) (s .pre .1) in
-    let k = rw (c .before .before .refused .given .1) at (numbers _ _ (c .before .before .before .before .before .before .apply-sound .ensures)) in
+    let k = rw (c .before .before .refused .given .1) at (numbers _ _ (at-apply-sound .apply-sound .ensures)) in
     let b : c .before .before .refused .given .0 .0 < 100 = rw (k .0) (small .0) in
     (s .pre .2, omega (arith, b), omega (arith, b))
 

@@ -1,4 +1,4 @@
--- `sheet::has_room` meets its contract.
+-- `sheet::has_room` meets its contract, by the two comparisons with the length of the lines.
 use Prim.Native.Nat.{_+_, _≤_}
 use mathlib.Core.Path.{sym}
 use native.Mathlib.Omega.{arith}

@@ -2,10 +2,10 @@
 use mathlib.Core.Path.{sym, _∙_}
 use borrow.Author.Needs.{needs}
 use Rattle.rules.specs.FormulaLaws.{passes}
-use Rattle.laws.specs.StepKeeps.{kept-sound}
+use Rattle.laws.specs.ByName.{kept-sound}
 use Rattle.session.specs.Table.{read}
 use Rattle.rules.specs.Sound.{sound}
-use Rattle.sound.specs.Whole.{memory-tested}
+use Rattle.sound.specs.RulesInOrder.{memory-tested}
 use Rattle.sheet.proofs.is_admitted.Statement.{statement}
 use Rattle.sheet.proofs.is_admitted.Tie as tie
 

@@ -3,7 +3,7 @@ use mathlib.Core.Path.{sym, _∙_}
 use lib.Dec.{lit<}
 use Rattle.session.specs.Table.{read}
 use Rattle.sheet.specs.Going.{linesOf}
-use Rattle.sheet.specs.Whole.{start-refused, start-behind, ends-refused}
+use Rattle.sheet.specs.WholeSheet.{start-refused, start-behind, ends-refused}
 use borrow.Author.Needs.{needs}
 use Rattle.sheet.proofs.run_at.Statement.{statement}
 use Rattle.sheet.proofs.run_at.Tie as tie
@@ -16,16 +16,28 @@ enum-known-n c = search needs
 
 put-answer-requires : tie.Need-put-answer-requires
 put-answer-requires c κs =
-    let a = c .before .before .before .before .before .before .before .before .before .args in
-    (c .before .before .before .before .before .before .before .before .before .pre .0 .1, start-refused (a .sheet .now) (read (a .memory .now)) (a .at) (a .done) (c .before .before .before .before .before .before .before .before .before .pre .2) (linesOf (a .lines .now) (a .used)) (c .before .before .before .before .before .before .before .before .before .pre .0 .1) _ (sym (c .before .before .before .before .start-at .ensures) ∙ c .before .before .n .given .1) .0, lit< tt)
+    let at-start-at = c .before .before .before .before in
+    let entry = at-start-at .before .before .before .before .before in
+    let a = entry .args in (
+      entry .pre .0 .1,
+      start-refused (a .sheet .now) (read (a .memory .now)) (a .at) (a .done) (entry .pre .2) (linesOf (a .lines .now) (a .used))
+          (entry .pre .0 .1) _ (sym (at-start-at .start-at .ensures) ∙ c .before .before .n .given .1) .0,
+      lit< tt,
+    )
 
 enum-known-first : tie.Need-enum-known-first
 enum-known-first c = search needs
 
 run-records-requires : tie.Need-run-records-requires
 run-records-requires c κs =
-    let a = c .before .before .before .before .before .before .before .before .before .before .args in
-    (c .before .before .before .before .before .before .before .before .before .before .pre .0 .0, c .before .before .before .before .before .before .before .before .before .before .pre .1, start-behind (a .sheet .now) (read (a .memory .now)) (a .at) (a .done) (c .before .before .before .before .before .before .before .before .before .before .pre .2) (linesOf (a .lines .now) (a .used)) (c .before .before .before .before .before .before .before .before .before .before .pre .0 .1) _ (sym (c .before .before .before .before .before .start-at .ensures) ∙ c .before .before .before .first .given .1) .0)
+    let at-start-at = c .before .before .before .before .before in
+    let entry = at-start-at .before .before .before .before .before in
+    let a = entry .args in (
+      entry .pre .0 .0,
+      entry .pre .1,
+      start-behind (a .sheet .now) (read (a .memory .now)) (a .at) (a .done) (entry .pre .2) (linesOf (a .lines .now) (a .used))
+          (entry .pre .0 .1) _ (sym (at-start-at .start-at .ensures) ∙ c .before .before .before .first .given .1) .0,
+    )
 
 same-length : tie.Need-same-length
 same-length c = search needs
@@ -35,8 +47,12 @@ same-length-2 c = search needs
 
 returns : tie.Need-returns
 returns c =
-    let a = c .before .before .before .before .before .before .before .before .before .before .before .before .args in
-    ends-refused (a .sheet .now) (a .memory .now) (a .lines .now) (a .used) (a .at) (a .done) (c .before .before .before .before .before .before .before .before .before .before .before .before .pre .2) (c .before .before .before .before .before .before .before .before .before .before .before .before .pre .0 .1) _ _ _ (sym (c .before .before .before .before .before .before .before .start-at .ensures) ∙ c .before .before .before .before .before .n .given .1) (c .before .before .put-answer .ensures)
+    let at-n = c .before .before .before .before .before in
+    let entry = at-n .before .before .before .before .before .before .before in
+    let a = entry .args in
+    ends-refused (a .sheet .now) (a .memory .now) (a .lines .now) (a .used) (a .at) (a .done) (entry .pre .2)
+    (entry .pre .0 .1) _ _ _ (sym (at-n .before .before .start-at .ensures) ∙ at-n .n .given .1)
+    (c .before .before .put-answer .ensures)
 
 same-length-3 : tie.Need-same-length-3
 same-length-3 c = search needs
@@ -46,8 +62,13 @@ same-length-4 c = search needs
 
 returns-2 : tie.Need-returns-2
 returns-2 c =
-    let a = c .before .before .before .before .before .before .before .before .before .before .before .before .before .before .before .args in
-    rw (← start-behind (a .sheet .now) (read (a .memory .now)) (a .at) (a .done) (c .before .before .before .before .before .before .before .before .before .before .before .before .before .before .before .pre .2) (linesOf (a .lines .now) (a .used)) (c .before .before .before .before .before .before .before .before .before .before .before .before .before .before .before .pre .0 .1) _ (sym (c .before .before .before .before .before .before .before .before .before .before .start-at .ensures) ∙ c .before .before .before .before .before .before .before .before .first .given .1) .1) (c .before .before .before .before .run-records .ensures)
+    let at-run-records = c .before .before .before .before in
+    let at-first = at-run-records .before .before .before .before in
+    let entry = at-first .before .before .before .before .before .before .before in
+    let a = entry .args in
+    rw (← start-behind (a .sheet .now) (read (a .memory .now)) (a .at) (a .done) (entry .pre .2)
+    (linesOf (a .lines .now) (a .used)) (entry .pre .0 .1) _
+    (sym (at-first .before .before .start-at .ensures) ∙ at-first .first .given .1) .1) (at-run-records .run-records .ensures)
 
 pub run-at-spec : {M : Type 1} → statement M
 run-at-spec =

@@ -9,7 +9,8 @@ use Rattle.sheet.proofs.run_records.Statement.{statement}
 use Rattle.sheet.proofs.run_records.Tie as tie
 
 abbrev Inv-loop : tie.InvT-loop
-Inv-loop sheet first done memory₀ lines₀ used sure at₀ behind₀ k₀ memory lines at behind k = Running sheet first done sure memory₀ lines₀ used memory lines at k behind × (length lines ≡ length lines₀)
+Inv-loop sheet first done memory₀ lines₀ used sure at₀ behind₀ k₀ memory lines at behind k =
+    Running sheet first done sure memory₀ lines₀ used memory lines at k behind × (length lines ≡ length lines₀)
 
 abbrev μ-loop : tie.MeasureT-loop
 μ-loop sheet first done memory₀ lines₀ used sure at₀ behind₀ k₀ memory lines at behind k = length sheet - at
@@ -19,42 +20,61 @@ loop-holds c = (running-first _ _ _ _ _ _ _ (c .before .before .before .pre .1) 
 
 run-record-requires : tie.Need-run-record-requires Inv-loop μ-loop
 run-record-requires c κs =
+    let entry = c .before .before .before .before .before .before .before in
     let i = c .before .before .before .loop .inv .0 in
-    (omega (arith, i .same-length, c .before .before .before .before .before .before .before .pre .0), i .keeps, c .before .before .loop-test .taken, omega (arith, i .count))
+    (omega (arith, i .same-length, entry .pre .0), i .keeps, c .before .before .loop-test .taken, omega (arith, i .count))
 
 enum-known-next : tie.Need-enum-known-next Inv-loop μ-loop
 enum-known-next c = search needs
 
 add-k : tie.Need-add-k Inv-loop μ-loop
-add-k c = omega (arith, c .before .before .before .before .before .before .before .before .before .before .before .loop .inv .0 .count)
+add-k c =
+    let at-loop = c .before .before .before .before .before .before .before .before .before .before .before in
+    omega (arith, at-loop .loop .inv .0 .count)
 
 loop-less : tie.Need-loop-less Inv-loop μ-loop
 loop-less c =
-    let o = onward-of _ _ _ _ (c .before .before .before .before .before .before .before .run-record .ensures .onward) (c .before .next .given .1) in
-    omega (arith, o, c .before .before .before .before .before .before .before .before .before .before .loop-test .taken)
+    let at-run-record = c .before .before .before .before .before .before .before in
+    let at-loop-test = at-run-record .before .before .before in
+    let o = onward-of _ _ _ _ (at-run-record .run-record .ensures .onward) (c .before .next .given .1) in
+    omega (arith, o, at-loop-test .loop-test .taken)
 
 loop-again : tie.Need-loop-again Inv-loop μ-loop
 loop-again c =
-    let l = c .before .before .before .before .before .before .before .before .before .before .before .loop in
-    let o = rw (c .before .next .given .1) at (c .before .before .before .before .before .before .before .run-record .ensures) in
-    (running-on _ _ _ _ _ _ _ _ _ _ _ _ (l .inv .0) (c .before .before .before .before .before .before .before .before .before .before .loop-test .taken) _ _ _ _ o, c .before .before .before .before .before .before .before .run-record .kept .1 .1 .1 .1 .0 ∙ l .inv .1)
+    let at-run-record = c .before .before .before .before .before .before .before in
+    let at-loop-test = at-run-record .before .before .before in
+    let l = at-loop-test .before .loop in
+    let o = rw (c .before .next .given .1) at (at-run-record .run-record .ensures) in (
+      running-on _ _ _ _ _ _ _ _ _ _ _ _ (l .inv .0) (at-loop-test .loop-test .taken) _ _ _ _ o,
+      at-run-record .run-record .kept .1 .1 .1 .1 .0 ∙ l .inv .1,
+    )
 
 enum-known-last : tie.Need-enum-known-last Inv-loop μ-loop
 enum-known-last c = search needs
 
 add-t22 : tie.Need-add-t22 Inv-loop μ-loop
-add-t22 c = omega (arith, c .before .before .before .before .before .before .before .before .before .before .before .loop .inv .0 .count)
+add-t22 c =
+    let at-loop = c .before .before .before .before .before .before .before .before .before .before .before in
+    omega (arith, at-loop .loop .inv .0 .count)
 
 same-length : tie.Need-same-length Inv-loop μ-loop
-same-length c = c .before .before .before .before .before .before .before .run-record .ensures .same-length ∙ c .before .before .before .before .before .before .before .before .before .before .before .loop .inv .0 .same-length
+same-length c =
+    let at-run-record = c .before .before .before .before .before .before .before in
+    let at-loop = at-run-record .before .before .before .before in
+    at-run-record .run-record .ensures .same-length ∙ at-loop .loop .inv .0 .same-length
 
 same-length-2 : tie.Need-same-length-2 Inv-loop μ-loop
-same-length-2 c = c .before .before .before .before .before .before .before .run-record .kept .1 .1 .1 .1 .0 ∙ c .before .before .before .before .before .before .before .before .before .before .before .loop .inv .1
+same-length-2 c =
+    let at-run-record = c .before .before .before .before .before .before .before in
+    let at-loop = at-run-record .before .before .before .before in
+    at-run-record .run-record .kept .1 .1 .1 .1 .0 ∙ at-loop .loop .inv .1
 
 returns : tie.Need-returns Inv-loop μ-loop
 returns c =
-    let o = rw (c .before .last .given .1) at (c .before .before .before .before .before .before .before .run-record .ensures) in
-    running-stop _ _ _ _ _ _ _ _ _ _ _ _ (c .before .before .before .before .before .before .before .before .before .before .before .loop .inv .0) (c .before .before .before .before .before .before .before .before .before .before .loop-test .taken) _ _ _ _ o
+    let at-run-record = c .before .before .before .before .before .before .before in
+    let at-loop-test = at-run-record .before .before .before in
+    let o = rw (c .before .last .given .1) at (at-run-record .run-record .ensures) in
+    running-stop _ _ _ _ _ _ _ _ _ _ _ _ (at-loop-test .before .loop .inv .0) (at-loop-test .loop-test .taken) _ _ _ _ o
 
 same-length-3 : tie.Need-same-length-3 Inv-loop μ-loop
 same-length-3 c = c .before .loop .inv .0 .same-length

@@ -19,15 +19,17 @@ enum-known-first c = search needs
 
 count-records-requires : tie.Need-count-records-requires
 count-records-requires c κs =
-    (c .before .before .before .before .before .before .before .pre .0, fresh-keeps _ (c .before .before .before .before .before .before .before .pre .1))
+    let entry = c .before .before .before .before .before .before .before in
+    (entry .pre .0, fresh-keeps _ (entry .pre .1))
 
 same-length : tie.Need-same-length
 same-length c = search needs
 
 returns : tie.Need-returns
 returns c =
-    let s = c .before .before .before .before .before .before .before in
-    let x = whole-refused _ _ (s .pre .1) _ (sym (c .before .before .before .before .read-head .ensures) ∙ c .before .before .enum-told .given .1) in
+    let at-read-head = c .before .before .before .before in
+    let s = at-read-head .before .before .before in
+    let x = whole-refused _ _ (s .pre .1) _ (sym (at-read-head .read-head .ensures) ∙ c .before .before .enum-told .given .1) in
     (c .with-dropped .ensures ∙ x .0, x .1)
 
 same-length-2 : tie.Need-same-length-2
@@ -35,8 +37,9 @@ same-length-2 c = search needs
 
 returns-2 : tie.Need-returns-2
 returns-2 c =
-    let s = c .before .before .before .before .before .before .before .before .before .before in
-    let x = whole-behind _ _ (s .pre .1) _ (sym (c .before .before .before .before .before .before .before .read-head .ensures) ∙ c .before .before .before .before .before .first .given .1) in
+    let at-first = c .before .before .before .before .before in
+    let s = at-first .before .before .before .before .before in
+    let x = whole-behind _ _ (s .pre .1) _ (sym (at-first .before .before .read-head .ensures) ∙ at-first .first .given .1) in
     (c .before .before .count-records .ensures .0 ∙ x .0, rw (← x .1) (c .before .before .count-records .ensures .1))
 
 pub count-fresh-spec : {M : Type 1} → statement M

@@ -30,8 +30,9 @@ same-length-2 c = search needs
 
 returns-2 : tie.Need-returns-2
 returns-2 c =
+    let at-is-start = c .before .before .before .before .before .before in
     let r = c .before .before .before .before .apply-sound .ensures in
-    (r .leaves, told-accepted _ _ _ _ (sym (c .enum-told2 .given .1) ∙ r .answer) (c .before .before .before .before .before .before .is-start .ensures))
+    (r .leaves, told-accepted _ _ _ _ (sym (c .enum-told2 .given .1) ∙ r .answer) (at-is-start .is-start .ensures))
 
 pub count-operation-spec : {M : Type 1} → statement M
 count-operation-spec =

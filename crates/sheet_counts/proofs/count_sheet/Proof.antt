@@ -1,6 +1,6 @@
 -- `sheet_counts::count_sheet` meets its contract: a kept session is tidy, so that it is renewed.
 use Rattle.session.specs.TableLaws.{wrote-then}
-use Rattle.laws.specs.StepKeeps.{kept-sound}
+use Rattle.laws.specs.ByName.{kept-sound}
 use Rattle.laws.specs.SoundTidy.{sound-tidy}
 use borrow.Author.Needs.{needs}
 use Rattle.sheet_counts.proofs.count_sheet.Statement.{statement}

@@ -1,4 +1,4 @@
--- `sheet_counts::is_start` meets its contract.
+-- `sheet_counts::is_start` meets its contract, by whether the code is 11.
 use mathlib.Core.Path.{sym}
 use Rattle.rules.specs.Formula.{Formula._≐_}
 use Rattle.rules.specs.FormulaLaws.{choose-yes, choose-no}

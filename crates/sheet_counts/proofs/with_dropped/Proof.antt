@@ -1,4 +1,4 @@
--- `sheet_counts::with_dropped` meets its contract.
+-- `sheet_counts::with_dropped` meets its contract: the dropped count is the one that `get` reads.
 use Prim.Native.Nat.{ℕ}
 use mathlib.Core.Path.{ap}
 use borrow.Author.Needs.{needs}

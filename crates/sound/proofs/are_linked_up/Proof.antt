@@ -1,11 +1,13 @@
+-- `sound::are_linked_up` meets its contract: `oneLink` (`single-same`) fails, or the slots (`slots-same`) decide (`test-and`).
 use mathlib.Core.Path.{refl, sym, _∙_}
 use native.Mathlib.Omega.{arith}
+use Rattle.session.specs.Names.{slotPlaces}
 use Rattle.session.specs.Table.{read}
 use Rattle.rules.specs.Sound.{oneLink, slots}
 use Rattle.rules.specs.FormulaLaws.{passed, failed, fails, test-and}
 use Rattle.sound.specs.LinkOf.{linked-low, single-same, slots-same}
 use Rattle.sound.specs.Row.{row-zero}
-use Rattle.sound.specs.Whole.{linkedUp}
+use Rattle.sound.specs.RulesInOrder.{linkedUp}
 use Rattle.sound.proofs.are_linked_up.Statement.{statement}
 use Rattle.sound.proofs.are_linked_up.Tie as tie
 
@@ -13,15 +15,26 @@ note-links-requires : tie.Need-note-links-requires
 note-links-requires c κs =
     let x = c .before .before in
     let p = x .pre in
-    let q = p .1 in
-    (p .0, q .few-links, q .links, linked-low (read (x .args .s .now)) (p .2) (omega (arith, q .objects, q .few-objects)), row-zero 8208 (λ p. 0) (λ p q. refl))
+    let q = p .1 in (
+      p .0,
+      q .few-links,
+      q .links,
+      linked-low (read (x .args .s .now)) (p .2) (omega (arith, q .objects, q .few-objects)),
+      row-zero slotPlaces (λ p. 0) (λ p q. refl),
+    )
 
 are-single-requires : tie.Need-are-single-requires
 are-single-requires c κs =
     let x = c .before .before .before .before in
     let p = x .pre in
-    let q = p .1 in
-    (p .0, q .few-links, q .links, linked-low (read (x .args .s .now)) (p .2) (omega (arith, q .objects, q .few-objects)), rw (q .links) at (c .before .note-links .ensures))
+    let q = p .1 in (
+      p .0,
+      q .few-links,
+      q .links,
+      linked-low (read (x .args .s .now)) (p .2) (omega (arith, q .objects, q .few-objects)),
+      rw
+          (q .links) at (c .before .note-links .ensures),
+    )
 
 are-slots-requires : tie.Need-are-slots-requires
 are-slots-requires c κs =
@@ -34,7 +47,9 @@ returns c =
     let s = read (x .args .s .now) in
     let q = x .pre .1 in
     let k = x .pre .2 in
-    let u = passed (oneLink s) (sym (single-same s k) ∙ sym (rw (q .links) at (c .before .before .before .are-single .ensures)) ∙ c .before .before .if1 .taken) in
+    let u = passed (oneLink s)
+    (sym (single-same s k) ∙ sym (rw (q .links) at (c .before .before .before .are-single .ensures))
+    ∙ c .before .before .if1 .taken) in
     (rw (q .objects) at (c .are-slots .ensures)) ∙ slots-same s k u ∙ sym (test-and (oneLink s) (slots s) u)
 
 returns-2 : tie.Need-returns-2

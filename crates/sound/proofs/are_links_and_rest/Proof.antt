@@ -1,10 +1,11 @@
+-- `sound::are_links_and_rest` meets its contract: the links fail (`fails`), or `are_slots_and_uses` decides (`test-and`).
 use mathlib.Core.Path.{sym, _∙_}
 use borrow.Author.Needs.{needs}
 use Rattle.session.specs.Table.{read}
 use Rattle.rules.specs.Sound.{links}
 use Rattle.rules.specs.FormulaLaws.{passed, failed, fails, test-and}
 use Rattle.rules.specs.Formula.{Formula._and_}
-use Rattle.sound.specs.Whole.{fromSlots}
+use Rattle.sound.specs.RulesInOrder.{fromSlots}
 use Rattle.sound.proofs.are_links_and_rest.Statement.{statement}
 use Rattle.sound.proofs.are_links_and_rest.Tie as tie
 
@@ -25,7 +26,9 @@ returns c =
     let x = c .before .before .before .before in
     let s = read (x .args .s .now) in
     let q = x .pre .1 in
-    c .are-slots-and-uses .ensures ∙ sym (test-and (links s) (fromSlots s) (passed (links s) (sym (rw (q .links) at (c .before .before .are-links .ensures)) ∙ c .before .if1 .taken)))
+    c .are-slots-and-uses .ensures ∙ sym
+    (test-and (links s) (fromSlots s)
+    (passed (links s) (sym (rw (q .links) at (c .before .before .are-links .ensures)) ∙ c .before .if1 .taken)))
 
 returns-2 : tie.Need-returns-2
 returns-2 c =

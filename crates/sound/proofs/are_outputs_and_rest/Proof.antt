@@ -1,11 +1,17 @@
+-- `sound::are_outputs_and_rest` meets its contract: the outputs fail, or `are_links_and_rest` decides (`test-and`).
+-- The marks of busy tasks may be made, since every creator is below its task (`creators-fall`).
 use mathlib.Core.Path.{sym, _∙_}
 use native.Mathlib.Omega.{arith}
 use borrow.Author.Needs.{needs}
+use Prim.Native.Nat.{_≤_}
 use Rattle.session.specs.Table.{read}
+use Rattle.session.specs.Names.{mostObjects}
+use Rattle.session.specs.declared.Field.the-variants.{Objects}
 use Rattle.rules.specs.Sound.{outputs}
 use Rattle.rules.specs.FormulaLaws.{passed, failed, fails, test-and}
+use Rattle.laws.specs.Parts.{taskParts-of}
 use Rattle.laws.specs.Under.{creators-fall}
-use Rattle.sound.specs.Whole.{fromLinks, fromOutputs}
+use Rattle.sound.specs.RulesInOrder.{fromLinks, fromOutputs}
 use Rattle.sound.proofs.are_outputs_and_rest.Statement.{statement}
 use Rattle.sound.proofs.are_outputs_and_rest.Tie as tie
 
@@ -14,7 +20,9 @@ busy-marks-requires c κs =
     let p = c .before .pre in
     let q = p .1 in
     let k = p .2 .it in
-    (p .0, omega (arith, q .objects, q .few-objects), creators-fall (read (c .before .args .s .now)) (k .0) (k .1 .0) (k .1 .1 .0))
+    let s = read (c .before .args .s .now) in
+    let few : s Objects 0 ≤ mostObjects = omega (arith, q .objects, q .few-objects) in
+    (p .0, few, creators-fall s few (taskParts-of s (k .0) (k .1 .1 .1)) (k .1 .0) (k .1 .1 .0))
 
 are-outputs-requires : tie.Need-are-outputs-requires
 are-outputs-requires c κs = search needs

@@ -1,3 +1,4 @@
+-- `sound::are_parts` meets its contract: four rules' answers, with the null object's kind, joined by `test-both`.
 use Prim.Native.Nat.{_+_}
 use mathlib.Core.Path.{sym, _∙_}
 use borrow.Author.Needs.{needs}
@@ -31,7 +32,13 @@ returns c =
     let s = read (x .args .s .now) in
     rw (c .are-roots .ensures, c .before .are-objects .ensures, c .before .before .is-rest-unused .ensures, c .before .before .before .are-creators .ensures, c .before .before .before .before .of-object .ensures, x .pre .2)
     (sym (test-both (objects s) (roots s and creators s and unused s)
-    ∙ rw (test-both (s Kind 0 ≐ 0) (each (s Objects 0 + 1) (object s)), test-both (roots s) (creators s and unused s), test-both (creators s) (unused s), test-eq (s Kind 0) 0)))
+    ∙ rw (
+      test-both (s Kind 0 ≐ 0) (each (s Objects 0 + 1) (object s)),
+      test-both (roots s) (creators s and unused s),
+      test-both
+          (creators s) (unused s),
+      test-eq (s Kind 0) 0,
+    )))
 
 pub are-parts-spec : {M : Type 1} → statement M
 are-parts-spec =

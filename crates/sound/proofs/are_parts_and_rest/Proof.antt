@@ -1,9 +1,10 @@
+-- `sound::are_parts_and_rest` meets its contract: the parts fail (`fails`), or `are_outputs_and_rest` decides (`test-and`).
 use mathlib.Core.Path.{sym, _∙_}
 use borrow.Author.Needs.{needs}
 use Rattle.session.specs.Table.{read}
 use Rattle.rules.specs.FormulaLaws.{passed, failed, fails, test-and}
 use Rattle.rules.specs.Formula.{Formula._and_}
-use Rattle.sound.specs.Whole.{parts, fromOutputs}
+use Rattle.sound.specs.RulesInOrder.{parts, fromOutputs}
 use Rattle.sound.proofs.are_parts_and_rest.Statement.{statement}
 use Rattle.sound.proofs.are_parts_and_rest.Tie as tie
 
@@ -24,7 +25,8 @@ returns c =
     let x = c .before .before .before .before in
     let s = read (x .args .s .now) in
     let q = x .pre .1 in
-    c .are-outputs-and-rest .ensures ∙ sym (test-and (parts s) (fromOutputs s) (passed (parts s) (sym (c .before .before .are-parts .ensures) ∙ c .before .if1 .taken)))
+    c .are-outputs-and-rest .ensures ∙ sym
+    (test-and (parts s) (fromOutputs s) (passed (parts s) (sym (c .before .before .are-parts .ensures) ∙ c .before .if1 .taken)))
 
 returns-2 : tie.Need-returns-2
 returns-2 c =

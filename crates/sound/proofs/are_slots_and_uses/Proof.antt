@@ -1,9 +1,10 @@
+-- `sound::are_slots_and_uses` meets its contract: slots and links fail (`fails`), or `are_uses` decides (`test-and`).
 use mathlib.Core.Path.{sym, _∙_}
 use borrow.Author.Needs.{needs}
 use Rattle.session.specs.Table.{read}
 use Rattle.rules.specs.FormulaLaws.{passed, failed, fails, test-and}
 use Rattle.rules.specs.Formula.{Formula._and_}
-use Rattle.sound.specs.Whole.{linkedUp, uses}
+use Rattle.sound.specs.RulesInOrder.{linkedUp, uses}
 use Rattle.sound.proofs.are_slots_and_uses.Statement.{statement}
 use Rattle.sound.proofs.are_slots_and_uses.Tie as tie
 
@@ -24,7 +25,9 @@ returns c =
     let x = c .before .before .before .before in
     let s = read (x .args .s .now) in
     let q = x .pre .1 in
-    c .are-uses .ensures ∙ sym (test-and (linkedUp s) (uses s) (passed (linkedUp s) (sym (c .before .before .are-linked-up .ensures) ∙ c .before .if1 .taken)))
+    c .are-uses .ensures ∙ sym
+    (test-and (linkedUp s) (uses s)
+    (passed (linkedUp s) (sym (c .before .before .are-linked-up .ensures) ∙ c .before .if1 .taken)))
 
 returns-2 : tie.Need-returns-2
 returns-2 c =

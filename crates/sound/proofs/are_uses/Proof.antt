@@ -1,3 +1,5 @@
+-- `sound::are_uses` meets its contract: the answers on five rules, joined by `test-both`.
+-- The rules known before bound a task's slots (`part-slots`) and say what a held slot is (`slots-held`).
 use Prim.Native.Nat.{_+_}
 use mathlib.Core.Path.{sym, _∙_}
 use native.Mathlib.Omega.{arith}
@@ -6,10 +8,11 @@ use Rattle.session.specs.declared.Field.the-variants.{Links, Dropped}
 use Rattle.session.specs.Table.{read}
 use Rattle.rules.specs.Sound.{states, blocks, compatible, latches, dropped}
 use Rattle.rules.specs.Formula.{count, Formula._and_}
-use Rattle.laws.specs.SlotPlaces.{few-slots}
+use Rattle.laws.specs.Parts.{made-taskPart}
+use Rattle.laws.specs.SlotPlaces.{part-slots}
 use Rattle.sound.specs.Bodies.{isDelivered}
 use Rattle.rules.specs.Bools.{test-both, test-le}
-use Rattle.sound.specs.Whole.{slots-held}
+use Rattle.sound.specs.RulesInOrder.{slots-held}
 use Rattle.sound.proofs.are_uses.Statement.{statement}
 use Rattle.sound.proofs.are_uses.Tie as tie
 
@@ -30,7 +33,7 @@ are-states-requires c κs =
     let x = c .before .before .before .before .before in
     let p = x .pre in
     let s = read (x .args .s .now) in
-    (p .0, p .1 .few-objects, λ h l. few-slots s (p .2 .it .0) h (omega (arith, l, p .1 .objects)))
+    (p .0, p .1 .few-objects, λ h l. part-slots s h (made-taskPart s (p .2 .it .0) h (omega (arith, l, p .1 .objects))))
 
 are-blocks-requires : tie.Need-are-blocks-requires
 are-blocks-requires c κs =
@@ -42,8 +45,12 @@ are-compatible-requires c κs =
     let x = c .before .before .before .before .before .before .before .before in
     let p = x .pre in
     let q = p .1 in
-    let s = read (x .args .s .now) in
-    (p .0, q .few-objects, λ i l m. slots-held s (p .2 .it .0) (omega (arith, q .objects, q .few-objects)) (p .3 .it) i (omega (arith, l, q .objects)) m)
+    let s = read (x .args .s .now) in (
+      p .0,
+      q .few-objects,
+      λ i l m. slots-held s (p .2 .it .0) (omega (arith, q .objects, q .few-objects)) (p .3 .it) i
+          (omega (arith, l, q .objects)) m,
+    )
 
 returns : tie.Need-returns
 returns c =

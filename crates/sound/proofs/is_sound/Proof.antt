@@ -1,6 +1,7 @@
+-- `sound::is_sound` meets its contract: too short memory is not sound, any other as `is_sound_session` answers (`soundMemory`).
 use borrow.Author.Tests.{le-leb, lt-leb}
 use borrow.Author.Needs.{needs}
-use Rattle.sound.specs.Whole.{soundMemory}
+use Rattle.sound.specs.RulesInOrder.{soundMemory}
 use Rattle.sound.proofs.is_sound.Statement.{statement}
 use Rattle.sound.proofs.is_sound.Tie as tie
 

@@ -1,10 +1,11 @@
+-- `sound::is_sound_session` meets its contract: the counts fail, or the rest decides (`test-and`); the order by `sound-grouped`.
 use mathlib.Core.Path.{sym, _∙_}
 use native.Mathlib.Omega.{arith}
 use borrow.Author.Needs.{needs}
 use Rattle.session.specs.Table.{read}
 use Rattle.rules.specs.Sound.{counts}
 use Rattle.rules.specs.FormulaLaws.{passed, failed, fails, test-and}
-use Rattle.sound.specs.Whole.{fromParts, grouped, sound-grouped}
+use Rattle.sound.specs.RulesInOrder.{fromParts, grouped, sound-grouped}
 use Rattle.sound.proofs.is_sound_session.Statement.{statement}
 use Rattle.sound.proofs.is_sound_session.Tie as tie
 
@@ -30,7 +31,8 @@ returns : tie.Need-returns
 returns c =
     let x = c .before .before .before .before .before .before in
     let s = read (x .args .s .now) in
-    let k = passed (counts s) (sym (c .before .before .before .before .are-counts .ensures) ∙ c .before .before .before .if1 .taken) in
+    let k = passed (counts s)
+    (sym (c .before .before .before .before .are-counts .ensures) ∙ c .before .before .before .if1 .taken) in
     c .are-parts-and-rest .ensures ∙ sym (test-and (counts s) (fromParts s) k) ∙ sound-grouped s
 
 returns-2 : tie.Need-returns-2

@@ -1,4 +1,4 @@
--- `tally::capped` meets its contract.
+-- `tally::capped` meets its contract: a sum past the largest stays at it (`sum-stays`), another is the sum (`sum-is`).
 use mathlib.Core.Path.{sym}
 use native.Mathlib.Omega.{arith}
 use borrow.Author.Needs.{needs}

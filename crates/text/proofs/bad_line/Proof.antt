@@ -10,7 +10,8 @@ use Rattle.text.proofs.bad_line.Statement.{statement}
 use Rattle.text.proofs.bad_line.Tie as tie
 
 abbrev Inv-loop : tie.InvT-loop
-Inv-loop text mode₀ line₀ i₀ mode line i = (i ≤ length text) × (line ≤ i + 1) × (badLineFrom mode line (drop i text) ≡ badLine text)
+Inv-loop text mode₀ line₀ i₀ mode line i =
+    (i ≤ length text) × (line ≤ i + 1) × (badLineFrom mode line (drop i text) ≡ badLine text)
 
 abbrev μ-loop : tie.MeasureT-loop
 μ-loop text mode₀ line₀ i₀ mode line i = length text - i
@@ -50,7 +51,8 @@ loop-again c =
     let then = c .before .before .before .next .ensures in
     let good = ap isBad (sym then) ∙ sym (c .before .before .is-bad .ensures) ∙ c .before .if1 .left in
     let line : c .if2 .line ≡ lineAfter (l .line) (getD text (l .i) 0) =
-    ⊎-elim (λ w. w .1 ∙ sym (line-more (l .line) _ (w .0 .taken))) (λ w. w .1 ∙ sym (line-same (l .line) _ (w .0 .left))) (c .if2 .came) in (
+    ⊎-elim (λ w. w .1 ∙ sym (line-more (l .line) _ (w .0 .taken))) (λ w. w .1 ∙ sym (line-same (l .line) _ (w .0 .left)))
+    (c .if2 .came) in (
       omega arith,
       ⊎-elim (λ w. omega arith) (λ w. omega arith) (c .if2 .came),
       rw (then, line) (sym (bad-later text (l .mode) (l .i) (omega arith) (l .line) good)) ∙ l .inv .2,

@@ -8,7 +8,7 @@ use Rattle.text.proofs.kind_of.Tie as tie
 
 -- past the arms of single numbers
 plain : (c : tie.At-match-rest) → Plain (c .before .args .b)
-plain c = let r = c .match .rest in record { no-newline = r .0 .0 .1; no-blank = r .0 .1; no-hash = r .1 }
+plain c = let r = c .match .rest in let blank = r .0 in record { no-newline = blank .0 .1; no-blank = blank .1; no-hash = r .1 }
 
 cast-t5 : tie.Need-cast-t5
 cast-t5 c = search needs

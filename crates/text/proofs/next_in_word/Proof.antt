@@ -28,25 +28,30 @@ enum-told-4 c = search needs
 
 returns : tie.Need-returns
 unfolding afterWord
-returns c = ap (afterWord (c .before .before .before .args .v)) (sym (c .enum-told .given .1) ∙ c .before .before .kind-of .ensures)
+returns c =
+    ap (afterWord (c .before .before .before .args .v)) (sym (c .enum-told .given .1) ∙ c .before .before .kind-of .ensures)
 
 returns-2 : tie.Need-returns-2
 unfolding afterWord
-returns-2 c = ap (afterWord (c .before .before .before .args .v)) (sym (c .enum-told2 .given .1) ∙ c .before .before .kind-of .ensures)
+returns-2 c =
+    ap (afterWord (c .before .before .before .args .v)) (sym (c .enum-told2 .given .1) ∙ c .before .before .kind-of .ensures)
 
 returns-3 : tie.Need-returns-3
 unfolding afterWord
-returns-3 c = ap (afterWord (c .before .before .before .args .v)) (sym (c .enum-told3 .given .1) ∙ c .before .before .kind-of .ensures)
+returns-3 c =
+    ap (afterWord (c .before .before .before .args .v)) (sym (c .enum-told3 .given .1) ∙ c .before .before .kind-of .ensures)
 
 returns-4 : tie.Need-returns-4
 unfolding afterWord
 returns-4 c =
-    let v = c .before .before .before .before .before .args .v in
-    c .with-digit .ensures ∙ ap (afterWord v) (sym (c .before .before .d .given .1) ∙ c .before .before .before .before .kind-of .ensures)
+    let at-kind-of = c .before .before .before .before in
+    let v = at-kind-of .before .args .v in
+    c .with-digit .ensures ∙ ap (afterWord v) (sym (c .before .before .d .given .1) ∙ at-kind-of .kind-of .ensures)
 
 returns-5 : tie.Need-returns-5
 unfolding afterWord
-returns-5 c = ap (afterWord (c .before .before .before .args .v)) (sym (c .enum-told4 .given .1) ∙ c .before .before .kind-of .ensures)
+returns-5 c =
+    ap (afterWord (c .before .before .before .args .v)) (sym (c .enum-told4 .given .1) ∙ c .before .before .kind-of .ensures)
 
 pub next-in-word-spec : {M : Type 1} → statement M
 next-in-word-spec =

@@ -23,8 +23,10 @@ returns-2 c =
     let a = c .before .before .before .before .before .args in
     let room = c .before .before .if1 .left in
     let e = c .before .bad-line .ensures in
-    let bad : 0 < badLine (a .text .now) = omega arith in
-    (ap BadLine e ∙ sym (bad-answer (a .text .now) (a .out .now) room bad), sym (bad-memory (a .text .now) (a .out .now) room bad))
+    let bad : 0 < badLine (a .text .now) = omega arith in (
+      ap BadLine e ∙ sym (bad-answer (a .text .now) (a .out .now) room bad),
+      sym (bad-memory (a .text .now) (a .out .now) room bad),
+    )
 
 write-numbers-requires : tie.Need-write-numbers-requires
 write-numbers-requires c κs = search needs
@@ -40,8 +42,10 @@ returns-3 c =
     let room = checked .before .if1 .left in
     let e = checked .bad-line .ensures in
     let good : badLine (a .text .now) ≡ 0 = omega arith in
-    let w = c .before .before .write-numbers .ensures in
-    (ap Sheet (w .0) ∙ sym (good-answer (a .text .now) (a .out .now) room good), w .1 ∙ sym (good-memory (a .text .now) (a .out .now) room good))
+    let w = c .before .before .write-numbers .ensures in (
+      ap Sheet (w .0) ∙ sym (good-answer (a .text .now) (a .out .now) room good),
+      w .1 ∙ sym (good-memory (a .text .now) (a .out .now) room good),
+    )
 
 pub to-sheet-spec : {M : Type 1} → statement M
 to-sheet-spec =

@@ -11,11 +11,17 @@ use Rattle.text.proofs.write_ended.Statement.{statement}
 use Rattle.text.proofs.write_ended.Tie as tie
 
 -- a word that does not go on: its value ended
-word-ended : (c : tie.Else1) → encodeAll (ended (c .before .before .before .before .before .before .args .mode) (c .before .before .before .before .before .before .args .then)) ≡ encode (c .before .before .before .mode .given .0 .0)
+word-ended : (c : tie.Else1) → (
+    let at-mode = c .before .before .before in
+    let a = at-mode .before .before .before .args in
+    encodeAll (ended (a .mode) (a .then)) ≡ encode (at-mode .mode .given .0 .0)
+    )
 word-ended c =
-    let then = c .before .before .before .before .before .before .args .then in
-    let mode = c .before .before .before .mode .given in
-    ap encodeAll (ap (λ (m : Mode). ended m then) (mode .1) ∙ ended-word _ then (sym (c .before .is-word .ensures) ∙ c .if1 .left))
+    let at-mode = c .before .before .before in
+    let then = at-mode .before .before .before .args .then in
+    let mode = at-mode .mode .given in
+    ap encodeAll
+    (ap (λ (m : Mode). ended m then) (mode .1) ∙ ended-word _ then (sym (c .before .is-word .ensures) ∙ c .if1 .left))
     ∙ encodeAll-one _
 
 enum-known-mode : tie.Need-enum-known-mode
@@ -44,7 +50,8 @@ returns c =
     let a = c .before .before .before .before .before .before .args in
     put-none
     (ended (a .mode) (a .then))
-    (ap (λ (m : Mode). ended m (a .then)) (c .before .before .before .mode .given .1) ∙ ended-on _ (a .then) (sym (c .before .is-word .ensures) ∙ c .if1 .taken))
+    (ap (λ (m : Mode). ended m (a .then)) (c .before .before .before .mode .given .1)
+    ∙ ended-on _ (a .then) (sym (c .before .is-word .ensures) ∙ c .if1 .taken))
     (a .out .now)
     (a .used)
 

@@ -7,7 +7,7 @@ use native.Mathlib.Omega.{arith}
 use lib.ListN.{length, drop}
 use Rattle.number.specs.Number.{splice}
 use Rattle.number.specs.Splice.{splice-length, splice-then}
-use Rattle.text.specs.Text.{ended, numbersFrom, encodeAll, sheetOf}
+use Rattle.text.specs.Text.{numbersFrom, encodeAll, sheetOf}
 use Rattle.text.specs.TextLaws.{numbers-start, bytes-step, length-step, bytes-end}
 use Rattle.text.specs.SheetLength.{sheet-short}
 use Rattle.text.proofs.write_numbers.Statement.{statement}

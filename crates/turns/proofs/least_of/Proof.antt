@@ -1,4 +1,4 @@
--- `turns::least_of` meets its contract.
+-- `turns::least_of` meets its contract, by which of the two is the smaller.
 use mathlib.Core.Path.{sym}
 use native.Mathlib.Omega.{arith}
 use Rattle.rules.specs.Formula.{Formula._≼_}

@@ -25,7 +25,8 @@ returns : tie.Need-returns
 returns c =
     let a = c .before .before .before .args in
     let room = a .room .now in
-    take-all (length room - c .before .least-of .result) (drop (c .before .least-of .result) room) (omega (arith, length-drop (c .before .least-of .result) room))
+    take-all (length room - c .before .least-of .result) (drop (c .before .least-of .result) room)
+    (omega (arith, length-drop (c .before .least-of .result) room))
     ∙ ap (λ (n : ℕ). drop n room) (c .before .least-of .ensures .0)
     ∙ drop-least (a .place) room
 

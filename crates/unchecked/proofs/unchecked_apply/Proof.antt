@@ -1,3 +1,4 @@
+-- `unchecked::unchecked_apply` meets its contract: what `apply_sound` answered, as two numbers (`told`).
 use Rattle.library.specs.Called.{operation, told}
 use borrow.Author.Needs.{needs}
 use Rattle.unchecked.proofs.unchecked_apply.Statement.{statement}
@@ -18,7 +19,8 @@ returns c =
     let call = c .before .before .before .before .apply-sound in
     let a = c .before .before .before .before .before .before .before .args in
     rw (t .0, t .1)
-    (told (a .memory .now) (call .last .0) (operation (a .code) (a .f0) (a .f1) (a .f2) (a .f3) (a .f4)) (call .result) (call .ensures))
+    (told (a .memory .now) (call .last .0) (operation (a .code) (a .f0) (a .f1) (a .f2) (a .f3) (a .f4)) (call .result)
+    (call .ensures))
 
 pub unchecked-apply-spec : {M : Type 1} → statement M
 unchecked-apply-spec = tie.close (tie.spec apply-sound-requires tell-requires same-length returns)

@@ -1,6 +1,8 @@
+-- `checks::granting::blocks_remain` meets its contract: the blocks of the slots before j remain, so one that does not decides
+-- against all (`wrong`), and at the count all of them do (`right`).
 use Prim.Native.Nat.{_-_, _≤_}
 use Rattle.checks.specs.Scan.{Through, through-more, through-none}
-use Rattle.checks.specs.TestLaws.{no-not, right, wrong, yes-not}
+use Rattle.reading.specs.TestLaws.{no-not, right, wrong, yes-not}
 use Rattle.rules.specs.Checks.{orNull, remains}
 use Rattle.session.specs.Table.{at, read}
 use Rattle.session.specs.declared.Field.the-variants.{SlotPayload, TaskSlots}
@@ -23,8 +25,8 @@ of-object-requires c κs = search needs
 loop-holds : tie.Need-loop-holds Inv-loop μ-loop
 loop-holds c = (c .of-object .ensures, omega arith, through-none _)
 
-of-slot-requires : tie.Need-of-slot-requires Inv-loop μ-loop
-of-slot-requires c κs = search needs
+of-slot-at-requires : tie.Need-of-slot-at-requires Inv-loop μ-loop
+of-slot-at-requires c κs = search needs
 
 remains-or-null-requires : tie.Need-remains-or-null-requires Inv-loop μ-loop
 remains-or-null-requires c κs = search needs
@@ -32,7 +34,8 @@ remains-or-null-requires c κs = search needs
 returns : tie.Need-returns Inv-loop μ-loop
 returns c =
     let l = c .before .before .before .before in
-    wrong _ (λ x. no-not _ (c .before .remains-or-null .ensures) (c .if1 .taken) (rw (c .before .before .of-slot .ensures) (x (l .loop .j) (omega arith))))
+    wrong _ (λ x. no-not _ (c .before .remains-or-null .ensures) (c .if1 .taken)
+    (rw (c .before .before .of-slot-at .ensures) (x (l .loop .j) (omega arith))))
 
 add-j : tie.Need-add-j Inv-loop μ-loop
 add-j c = omega arith
@@ -42,8 +45,12 @@ loop-less c = omega arith
 
 loop-again : tie.Need-loop-again Inv-loop μ-loop
 loop-again c =
-    let l = c .before .before .before .before in
-    (l .loop .inv .0, omega arith, through-more _ _ (l .loop .inv .2) (rw (c .before .before .of-slot .ensures) at (yes-not _ (c .before .remains-or-null .ensures) (c .if1 .left))))
+    let l = c .before .before .before .before in (
+      l .loop .inv .0,
+      omega arith,
+      through-more _ _ (l .loop .inv .2)
+          (rw (c .before .before .of-slot-at .ensures) at (yes-not _ (c .before .remains-or-null .ensures) (c .if1 .left))),
+    )
 
 returns-2 : tie.Need-returns-2 Inv-loop μ-loop
 returns-2 c = let l = c .before in right _ (λ i h. l .loop .inv .2 .all i (omega arith))
@@ -56,7 +63,7 @@ blocks-remain-spec =
     μ-loop
     of-object-requires
     loop-holds
-    of-slot-requires
+    of-slot-at-requires
     remains-or-null-requires
     returns
     add-j

@@ -1,4 +1,6 @@
-use Rattle.checks.specs.TestLaws.{after, wrong}
+-- `checks::granting::clashes` meets its contract: another block is no clash (`wrong`), and of the same block it is `is_stopped`'s
+-- answer (`after`).
+use Rattle.reading.specs.TestLaws.{after, wrong}
 use borrow.Author.Needs.{needs}
 use Rattle.checks.proofs.granting.clashes.Statement.{statement}
 use Rattle.checks.proofs.granting.clashes.Tie as tie

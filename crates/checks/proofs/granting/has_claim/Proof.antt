@@ -1,7 +1,9 @@
+-- `checks::granting::has_claim` meets its contract: no slot before j is a claim, so one that is decides (`right`), and at the
+-- count there is none (`wrong`).
 use Prim.Native.Nat.{_-_, _≤_}
-use Rattle.checks.specs.Granting.{isClaim, slotAt}
+use Rattle.checks.specs.GrantChecks.{isClaim, slotAt}
 use Rattle.checks.specs.Scan.{Through, through-more, through-none}
-use Rattle.checks.specs.TestLaws.{no, right, wrong, yes}
+use Rattle.reading.specs.TestLaws.{no, right, wrong, yes}
 use Rattle.rules.specs.Formula.{not}
 use Rattle.session.specs.Table.{at, read}
 use Rattle.session.specs.declared.Field.the-variants.{TaskSlots}
@@ -32,7 +34,12 @@ is-claim-requires c κs = search needs
 returns : tie.Need-returns Inv-loop μ-loop
 returns c =
     let l = c .before .before .before .before in
-    right _ (l .loop .j, omega arith, rw (c .before .before .slot-of .ensures) at (yes _ (c .before .is-claim .ensures) (c .if1 .taken)))
+    right _ (
+      l .loop .j,
+      omega arith,
+      rw (c .before .before .slot-of .ensures) at
+          (yes _ (c .before .is-claim .ensures) (c .if1 .taken)),
+    )
 
 add-j : tie.Need-add-j Inv-loop μ-loop
 add-j c = omega arith
@@ -42,8 +49,12 @@ loop-less c = omega arith
 
 loop-again : tie.Need-loop-again Inv-loop μ-loop
 loop-again c =
-    let l = c .before .before .before .before in
-    (l .loop .inv .0, omega arith, through-more _ _ (l .loop .inv .2) (rw (c .before .before .slot-of .ensures) at (no _ (c .before .is-claim .ensures) (c .if1 .left))))
+    let l = c .before .before .before .before in (
+      l .loop .inv .0,
+      omega arith,
+      through-more _ _ (l .loop .inv .2)
+          (rw (c .before .before .slot-of .ensures) at (no _ (c .before .is-claim .ensures) (c .if1 .left))),
+    )
 
 returns-2 : tie.Need-returns-2 Inv-loop μ-loop
 returns-2 c = let l = c .before in wrong _ (λ x. l .loop .inv .2 .all (x .0) (let y = x .1 in omega arith) (x .2))

@@ -1,5 +1,7 @@
+-- `checks::granting::hold_clashes` meets its contract: place 0 by `from-creation`, a slot that holds nothing by `no-hold`, one
+-- that holds by `by-slot`.
 use Rattle.checks.specs.Scan.{by-slot, from-creation, no-hold}
-use Rattle.checks.specs.TestLaws.{wrong}
+use Rattle.reading.specs.TestLaws.{wrong}
 use Rattle.session.specs.Table.{read}
 use borrow.Author.Needs.{needs}
 use mathlib.Core.Path.{_∙_, sym}
@@ -20,7 +22,8 @@ get-requires c κs = search needs
 returns-2 : tie.Need-returns-2
 returns-2 c =
     let a = c .before .before .before .before .args in
-    wrong _ (no-hold (read (a .s .now)) (a .t) (a .slot) (a .k) (c .before .before .if1 .left) (λ e. c .if2 .taken (c .before .get .ensures ∙ e)))
+    wrong _ (no-hold (read (a .s .now)) (a .t) (a .slot) (a .k) (c .before .before .if1 .left)
+    (λ e. c .if2 .taken (c .before .get .ensures ∙ e)))
 
 slot-at-requires : tie.Need-slot-at-requires
 slot-at-requires c κs = search needs
@@ -32,7 +35,8 @@ returns-3 : tie.Need-returns-3
 returns-3 c =
     let m = c .before .before in
     let a = m .before .before .before .before .args in
-    by-slot (read (a .s .now)) (a .t) (a .slot) (a .k) (m .before .before .if1 .left) (sym (m .before .get .ensures) ∙ m .if2 .left) (rw (c .before .slot-at .ensures) at (c .clashes .ensures))
+    by-slot (read (a .s .now)) (a .t) (a .slot) (a .k) (m .before .before .if1 .left)
+    (sym (m .before .get .ensures) ∙ m .if2 .left) (rw (c .before .slot-at .ensures) at (c .clashes .ensures))
 
 pub hold-clashes-spec : {M : Type 1} → statement M
 hold-clashes-spec =

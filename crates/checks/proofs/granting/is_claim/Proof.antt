@@ -1,4 +1,6 @@
-use Rattle.checks.specs.TestLaws.{after, equals, otherwise, wrong}
+-- `checks::granting::is_claim` meets its contract: with no payload it is no claim (`wrong`), else it is one if the mode is not RO
+-- (`after`).
+use Rattle.reading.specs.TestLaws.{after, equals, otherwise, wrong}
 use Rattle.checks.proofs.granting.is_claim.Statement.{statement}
 use Rattle.checks.proofs.granting.is_claim.Tie as tie
 

@@ -1,10 +1,14 @@
+-- `checks::granting::is_free` meets its contract: each slot before j is free, and for slot j no hold before number q clashes; a
+-- claim scanned to the end is free (`free-scanned`), no claim is free (`free-unclaimed`), and a clash decides against (`taken`).
 use Prim.Native.Nat.{_*_, _-_, _/_, _≤_, _<_}
-use Rattle.checks.specs.Granting.{slotAt}
-use Rattle.checks.specs.Scan.{Scanned, Through, free-scanned, free-unclaimed, record-count, record-slot, scan-more, scan-same, taken, through-more, through-none}
-use Rattle.checks.specs.Holders.{Listed, listed-few, listed-first, place-few, place-first, reach}
+use Rattle.checks.specs.GrantChecks.{slotAt}
+use Rattle.checks.specs.Scan.{Scanned, Through, free-scanned, free-unclaimed, record-count, record-slot, scan-more}
+use Rattle.checks.specs.Scan.{scan-same, taken, through-more, through-none}
+use Rattle.checks.specs.HolderList.{Listed, listed-few, listed-first, place-few, place-first, reach}
 use Rattle.checks.specs.SoundParts.{few-objects, sound-few-slots}
-use Rattle.checks.specs.TestLaws.{no, no-not, right, wrong, yes, yes-not}
+use Rattle.reading.specs.TestLaws.{no, no-not, right, wrong, yes, yes-not}
 use Rattle.rules.specs.Checks.{slotFree}
+use Rattle.session.specs.Names.{mostObjects, slotPlaces}
 use Rattle.session.specs.Table.{at, read}
 use Rattle.session.specs.declared.Field.the-variants.{Objects, TaskSlots}
 use mathlib.Core.Bool.{true}
@@ -16,20 +20,23 @@ use Rattle.checks.proofs.granting.is_free.Tie as tie
 
 abbrev Inv-loop : tie.InvT-loop
 Inv-loop s t task count holders₀ found₀ free₀ j i slot q₀ holders found free q =
-    (free ≡ true) × Listed (read s) holders found × (q ≤ 16 * found) × (16 * found ≤ q → read s Objects 0 < reach holders found) × Scanned (read s) t (slotAt (read s) (at t j)) holders q
+    (free ≡ true) × Listed (read s) holders found × (q ≤ 16 * found) × (16 * found ≤ q → read s Objects 0 < reach holders found)
+    × Scanned (read s) t (slotAt (read s) (at t j)) holders q
 
 abbrev μ-loop : tie.MeasureT-loop
-μ-loop s t task count holders₀ found₀ free₀ j i slot q₀ holders found free q = 8208 - q
+μ-loop s t task count holders₀ found₀ free₀ j i slot q₀ holders found free q = slotPlaces - q
 
 abbrev Inv-slots : tie.InvT-slots
 Inv-slots s t task count holders₀ found₀ free₀ j₀ holders found free j =
-    (free ≡ true) × (count ≡ read s TaskSlots t) × (count ≤ 16) × Listed (read s) holders found × Through (λ i. slotFree (read s) t (at t i)) j
+    (free ≡ true) × (count ≡ read s TaskSlots t) × (count ≤ 16) × Listed (read s) holders found × Through
+    (λ i. slotFree (read s) t (at t i)) j
 
 abbrev μ-slots : tie.MeasureT-slots
 μ-slots s t task count holders₀ found₀ free₀ j₀ holders found free j = count - j
 
 -- t is a place of its fields, and has at most 16 slots
-few : (c : tie.Start Inv-loop μ-loop Inv-slots μ-slots) → (c .args .t ≤ 512) × (read (c .args .s .now) TaskSlots (c .args .t) ≤ 16)
+few : (c : tie.Start Inv-loop μ-loop Inv-slots μ-slots) → (c .args .t ≤ mostObjects)
+    × (read (c .args .s .now) TaskSlots (c .args .t) ≤ 16)
 few c =
     let o = few-objects _ (c .pre .1) in
     (omega arith, sound-few-slots _ (c .pre .1) (c .args .t) (c .pre .2))
@@ -68,8 +75,14 @@ slots-again : tie.Need-slots-again Inv-loop μ-loop Inv-slots μ-slots
 slots-again c =
     let h = c .before .before .before .before in
     let i = h .slots .inv in
-    let e = record-slot _ _ _ (h .before .task-at .ensures) (h .slots .j) (omega arith) in
-    (i .0, i .1, i .2, i .3, through-more _ _ (i .4) (free-unclaimed _ _ _ (rw e at (no-not _ (c .before .is-claim .ensures) (c .if2 .taken)))))
+    let e = record-slot _ _ _ (h .before .task-at .ensures) (h .slots .j) (omega arith) in (
+      i .0,
+      i .1,
+      i .2,
+      i .3,
+      through-more _ _ (i .4)
+          (free-unclaimed _ _ _ (rw e at (no-not _ (c .before .is-claim .ensures) (c .if2 .taken)))),
+    )
 
 loop-holds : tie.Need-loop-holds Inv-loop μ-loop Inv-slots μ-slots
 loop-holds c =
@@ -139,8 +152,14 @@ slots-again-2 c =
     let a = h .before .before .before .before .before in
     let e = record-slot _ _ _ (h .before .task-at .ensures) (h .slots .j) (omega arith) in
     let claim = rw e at (yes-not _ (l .before .before .is-claim .ensures) (l .before .if2 .left)) in
-    let end = c .loop-test .left in
-    (k .0, i .1, i .2, k .1, through-more _ _ (i .4) (free-scanned _ _ _ (a .pre .1) _ _ (k .1) (l .loop .q) (k .3 end) end (k .4) claim))
+    let end = c .loop-test .left in (
+      k .0,
+      i .1,
+      i .2,
+      k .1,
+      through-more _ _ (i .4)
+          (free-scanned _ _ _ (a .pre .1) _ _ (k .1) (l .loop .q) (k .3 end) end (k .4) claim),
+    )
 
 returns-2 : tie.Need-returns-2 Inv-loop μ-loop Inv-slots μ-slots
 returns-2 c = let h = c .before .slots in h .inv .0 ∙ right _ (λ j m. h .inv .4 .all j (omega arith))
@@ -153,7 +172,8 @@ returns-3 c =
     let e = record-slot _ _ _ (h .before .task-at .ensures) (h .slots .j) (omega arith) in
     let claim = rw e at (yes-not _ (l .before .before .is-claim .ensures) (l .before .if2 .left)) in
     let hit = rw (e, c .before .before .place-at .ensures) at (yes _ (c .before .hold-clashes .ensures) (c .if3 .taken)) in
-    wrong _ (λ f. taken _ _ _ (a .pre .1) _ _ (l .loop .inv .1) (a .pre .3) (l .loop .q) (omega arith) claim hit (f (h .slots .j) (omega arith)))
+    wrong _ (λ f. taken _ _ _ (a .pre .1) _ _ (l .loop .inv .1) (a .pre .3) (l .loop .q) (omega arith) claim hit
+    (f (h .slots .j) (omega arith)))
 
 pub is-free-spec : {M : Type 1} → statement M
 is-free-spec =

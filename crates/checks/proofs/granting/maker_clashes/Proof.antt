@@ -1,4 +1,6 @@
-use Rattle.checks.specs.TestLaws.{after, wrong}
+-- `checks::granting::maker_clashes` meets its contract: each early return denies one part (`wrong`); past all three `is_stopped`
+-- decides what is left (`after`).
+use Rattle.reading.specs.TestLaws.{after, wrong}
 use borrow.Author.Needs.{needs}
 use mathlib.Core.Path.{_∙_, sym}
 use native.Mathlib.Omega.{arith}
@@ -26,7 +28,8 @@ is-stopped-requires c κs = search needs
 returns-4 : tie.Need-returns-4
 returns-4 c =
     let b = c .before .before .before .before .before .if1 in
-    after _ _ (b .left) (after _ _ (omega arith) (after _ _ (λ x. c .before .if3 .left (c .before .before .of-object2 .ensures ∙ x)) (c .is-stopped .ensures)))
+    after _ _ (b .left) (after _ _ (omega arith)
+    (after _ _ (λ x. c .before .if3 .left (c .before .before .of-object2 .ensures ∙ x)) (c .is-stopped .ensures)))
 
 pub maker-clashes-spec : {M : Type 1} → statement M
 maker-clashes-spec =

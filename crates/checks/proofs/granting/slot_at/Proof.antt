@@ -1,4 +1,5 @@
-use Rattle.checks.specs.Granting.{slotAt}
+-- `checks::granting::slot_at` meets its contract: the three fields read, by the definition of `slotAt`.
+use Rattle.checks.specs.GrantChecks.{slotAt}
 use borrow.Author.Needs.{needs}
 use Rattle.checks.proofs.granting.slot_at.Statement.{statement}
 use Rattle.checks.proofs.granting.slot_at.Tie as tie

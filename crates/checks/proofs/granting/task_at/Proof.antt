@@ -1,5 +1,7 @@
+-- `checks::granting::task_at` meets its contract: the array's first j slots are the table's (`upTo-more`), at 16 all of them; the
+-- other fields as they are read, by the definition of `taskAt`.
 use Prim.Native.Nat.{_-_, _≤_}
-use Rattle.checks.specs.Granting.{slotAt, taskAt, upTo, upTo-more}
+use Rattle.checks.specs.GrantChecks.{slotAt, taskAt, upTo, upTo-more}
 use Rattle.session.specs.Table.{at, read}
 use lib.ListN.{length, length-set, take}
 use lib.Seq.{take-all}
@@ -35,8 +37,12 @@ loop-less c = omega arith
 
 loop-again : tie.Need-loop-again Inv-loop μ-loop
 loop-again c =
-    let i = c .before .before .loop .inv in
-    (omega arith, simp length-set (i .1), rw (c .slot-of .ensures) (upTo-more _ _ (λ j. slotAt _ (at _ j)) (omega (arith, i .1)) (i .2)))
+    let i = c .before .before .loop .inv in (
+      omega arith,
+      simp length-set (i .1),
+      rw (c .slot-of .ensures)
+          (upTo-more _ _ (λ j. slotAt _ (at _ j)) (omega (arith, i .1)) (i .2)),
+    )
 
 get-requires : tie.Need-get-requires Inv-loop μ-loop
 get-requires c κs = omega arith
@@ -60,7 +66,8 @@ returns c =
     let l = g .before .before .loop in
     let a = g .before .before .before .before .args in
     let d : l .j ≡ 16 = omega arith in
-    let e : l .slots ≡ upTo 16 (λ j. slotAt (read (a .s .now)) (at (a .t) j)) = sym (take-all 16 (l .slots) (omega (arith, l .inv .1))) ∙ rw d at (l .inv .2) in
+    let e : l .slots ≡ upTo 16 (λ j. slotAt (read (a .s .now)) (at (a .t) j)) = sym
+    (take-all 16 (l .slots) (omega (arith, l .inv .1))) ∙ rw d at (l .inv .2) in
     rw (g .get .ensures, c .before .before .before .get2 .ensures, c .before .before .get3 .ensures, c .before .get4 .ensures, c .get5 .ensures, e)
 
 pub task-at-spec : {M : Type 1} → statement M

@@ -1,5 +1,7 @@
+-- `checks::holders::find_more` meets its contract: at its two early returns the list is as it was; else the next holder comes
+-- behind it (`more-listed`). That a list is short (`listed-few`) keeps the numbers in range.
 use Prim.Native.Nat.{_-_}
-use Rattle.checks.specs.Holders.{listed-few, more-listed}
+use Rattle.checks.specs.HolderList.{listed-few, more-listed}
 use borrow.Author.Needs.{needs}
 use native.Mathlib.Omega.{arith}
 use Rattle.checks.proofs.holders.find_more.Statement.{statement}

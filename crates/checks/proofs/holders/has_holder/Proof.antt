@@ -1,7 +1,9 @@
+-- `checks::holders::has_holder` meets its contract: none of the first n of the eight is a holder, so one that is decides
+-- (`right`), and after eight there is none (`wrong`).
 use Prim.Native.Nat.{_+_, _-_, _≤_}
 use Rattle.checks.specs.Scan.{Through, through-more, through-none}
-use Rattle.checks.specs.Holders.{isHolder}
-use Rattle.checks.specs.TestLaws.{no, right, wrong, yes}
+use Rattle.checks.specs.HolderList.{isHolder}
+use Rattle.reading.specs.TestLaws.{no, right, wrong, yes}
 use Rattle.rules.specs.Formula.{not}
 use Rattle.session.specs.Table.{read}
 use native.Mathlib.Omega.{arith}

@@ -1,4 +1,6 @@
-use Rattle.checks.specs.TestLaws.{beside, equals, right}
+-- `checks::holders::is_holder` meets its contract: granted is the first side of the `or` (`right`), and of any other state the
+-- second decides (`beside`).
+use Rattle.reading.specs.TestLaws.{beside, equals, right}
 use borrow.Author.Needs.{needs}
 use mathlib.Core.Logic.{inl}
 use mathlib.Core.Path.{_∙_, sym}

@@ -1,6 +1,8 @@
+-- `checks::holders::next_holder` meets its contract: both loops keep that no holder was passed, eight at a time (`pass-row`) and
+-- then one by one (`pass-more`).
 use Prim.Native.Nat.{_-_, _≤_}
-use Rattle.checks.specs.Holders.{Passed, isHolder, pass-more, pass-none, pass-on, pass-row}
-use Rattle.checks.specs.TestLaws.{no}
+use Rattle.checks.specs.HolderList.{Passed, isHolder, pass-more, pass-none, pass-on, pass-row}
+use Rattle.reading.specs.TestLaws.{no}
 use Rattle.session.specs.Table.{read}
 use mathlib.Core.Path.{refl}
 use native.Mathlib.Omega.{arith}
@@ -36,8 +38,11 @@ loop-less c = omega arith
 
 loop-again : tie.Need-loop-again Inv-loop μ-loop Inv-loop2 μ-loop2
 loop-again c =
-    let l = c .before .before .before .loop in
-    (omega arith, pass-on _ _ _ _ (l .inv .1) (pass-row _ _ _ (λ i b x. no _ (c .before .has-holder .ensures) (c .if1 .left) (i, b, x))))
+    let l = c .before .before .before .loop in (
+      omega arith,
+      pass-on _ _ _ _ (l .inv .1)
+          (pass-row _ _ _ (λ i b x. no _ (c .before .has-holder .ensures) (c .if1 .left) (i, b, x))),
+    )
 
 loop2-holds : tie.Need-loop2-holds Inv-loop μ-loop Inv-loop2 μ-loop2
 loop2-holds c = c .before .loop .inv

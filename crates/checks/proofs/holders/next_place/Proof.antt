@@ -1,5 +1,7 @@
+-- `checks::holders::next_place` meets its contract: the next slot of the same holder passes nothing; past its last slot the
+-- places up to the next holder's are no holds (`pass-unused`).
 use Prim.Native.Nat.{_/_}
-use Rattle.checks.specs.Holders.{listed-few, pass-unused}
+use Rattle.checks.specs.HolderList.{listed-few, pass-unused}
 use borrow.Author.Needs.{needs}
 use native.Mathlib.Omega.{arith}
 use Rattle.checks.proofs.holders.next_place.Statement.{statement}

@@ -1,4 +1,6 @@
-use Rattle.checks.specs.Holders.{placeOf}
+-- `checks::holders::place_at` meets its contract: the value computed is the definition of `placeOf`, and the requirements keep it
+-- in range.
+use Rattle.checks.specs.HolderList.{placeOf}
 use borrow.Author.Needs.{needs}
 use mathlib.Core.Path.{refl}
 use Rattle.checks.proofs.holders.place_at.Statement.{statement}

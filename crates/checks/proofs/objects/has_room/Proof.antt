@@ -1,4 +1,6 @@
-use Rattle.checks.specs.TestLaws.{room-for}
+-- `checks::objects::has_room` meets its contract: n is at most the most objects, so comparing with the difference is comparing
+-- the sum (`room-for`).
+use Rattle.reading.specs.TestLaws.{room-for}
 use borrow.Author.Needs.{needs}
 use native.Mathlib.Omega.{arith}
 use Rattle.checks.proofs.objects.has_room.Statement.{statement}

@@ -1,4 +1,6 @@
-use Rattle.checks.specs.TestLaws.{after, beside, equals, right, wrong}
+-- `checks::objects::is_count` meets its contract: a count past 16 is none (`wrong`), any other will do where the template's is
+-- unknown (`right`), and else the two are compared (`after`, `beside`).
+use Rattle.reading.specs.TestLaws.{after, beside, equals, right, wrong}
 use borrow.Author.Needs.{needs}
 use mathlib.Core.Logic.{inl}
 use native.Mathlib.Omega.{arith}
@@ -19,7 +21,8 @@ returns-2 c = right _ (omega arith, inl (omega arith))
 
 returns-3 : tie.Need-returns-3
 returns-3 c =
-    rw (c .before .of-object .ensures, c .before .before .before .task-slots .ensures) (after _ _ (omega arith) (beside _ _ (λ x. omega arith) (equals _ _)))
+    rw (c .before .of-object .ensures, c .before .before .before .task-slots .ensures)
+    (after _ _ (omega arith) (beside _ _ (λ x. omega arith) (equals _ _)))
 
 pub is-count-spec : {M : Type 1} → statement M
 is-count-spec = tie.close (tie.spec task-slots-requires returns of-object-requires returns-2 returns-3)

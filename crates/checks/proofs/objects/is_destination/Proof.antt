@@ -1,4 +1,6 @@
-use Rattle.checks.specs.TestLaws.{beside, no, right, yes}
+-- `checks::objects::is_destination` meets its contract: a task is the first side of the `or`, and of any other `is_user_event`
+-- decides (`beside`).
+use Rattle.reading.specs.TestLaws.{beside, no, right, yes}
 use borrow.Author.Needs.{needs}
 use mathlib.Core.Logic.{inl}
 use Rattle.checks.proofs.objects.is_destination.Statement.{statement}

@@ -1,4 +1,6 @@
-use Rattle.checks.specs.TestLaws.{given, no-not, right, yes-not}
+-- `checks::objects::is_destroyable` meets its contract: what is no event meets the `then` for nothing (`right`), and of an event
+-- `is_user_event` decides (`given`).
+use Rattle.reading.specs.TestLaws.{given, no-not, right, yes-not}
 use borrow.Author.Needs.{needs}
 use Rattle.checks.proofs.objects.is_destroyable.Statement.{statement}
 use Rattle.checks.proofs.objects.is_destroyable.Tie as tie

@@ -1,4 +1,6 @@
-use Rattle.checks.specs.TestLaws.{at-most, given, no-not, right, yes-not}
+-- `checks::objects::is_idle` meets its contract: what is no task meets the `then` for nothing (`right`), and of a task its state
+-- decides (`given`).
+use Rattle.reading.specs.TestLaws.{at-most, given, no-not, right, yes-not}
 use borrow.Author.Needs.{needs}
 use Rattle.checks.proofs.objects.is_idle.Statement.{statement}
 use Rattle.checks.proofs.objects.is_idle.Tie as tie

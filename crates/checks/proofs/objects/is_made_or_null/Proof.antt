@@ -1,4 +1,6 @@
-use Rattle.checks.specs.TestLaws.{beside, right}
+-- `checks::objects::is_made_or_null` meets its contract: null is the first side of the `or`, and of any other handle `is_made`
+-- decides (`beside`).
+use Rattle.reading.specs.TestLaws.{beside, right}
 use borrow.Author.Needs.{needs}
 use mathlib.Core.Logic.{inl}
 use native.Mathlib.Omega.{arith}

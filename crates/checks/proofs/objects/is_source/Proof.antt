@@ -1,4 +1,6 @@
-use Rattle.checks.specs.TestLaws.{beside, no, right, yes}
+-- `checks::objects::is_source` meets its contract: null and a block are sides of the `or`, and of any other handle whether it is
+-- an event decides (`beside`, twice).
+use Rattle.reading.specs.TestLaws.{beside, no, right, yes}
 use borrow.Author.Needs.{needs}
 use mathlib.Core.Logic.{inl, inr}
 use native.Mathlib.Omega.{arith}
@@ -19,7 +21,8 @@ is-kind-requires-2 c κs = search needs
 
 returns-3 : tie.Need-returns-3
 returns-3 c =
-    beside _ _ (λ x. omega arith) (beside _ _ (no _ (c .before .before .is-kind .ensures) (c .before .if2 .left)) (c .is-kind2 .ensures))
+    beside _ _ (λ x. omega arith)
+    (beside _ _ (no _ (c .before .before .is-kind .ensures) (c .before .if2 .left)) (c .is-kind2 .ensures))
 
 pub is-source-spec : {M : Type 1} → statement M
 is-source-spec =

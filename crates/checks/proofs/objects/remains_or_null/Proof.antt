@@ -1,4 +1,6 @@
-use Rattle.checks.specs.TestLaws.{beside, otherwise, right}
+-- `checks::objects::remains_or_null` meets its contract: null is the first side of the `or`, and of any other the denial of
+-- `is_gone` decides (`beside`, `otherwise`).
+use Rattle.reading.specs.TestLaws.{beside, otherwise, right}
 use borrow.Author.Needs.{needs}
 use mathlib.Core.Logic.{inl}
 use native.Mathlib.Omega.{arith}

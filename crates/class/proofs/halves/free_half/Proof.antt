@@ -1,4 +1,4 @@
--- `class::halves::free_half` meets its contract.
+-- `class::halves::free_half` meets its contract, by whether a sheet is pending, and in which half.
 use mathlib.Core.Path.{ap, sym, _∙_}
 use Rattle.rules.specs.Formula.{Formula._≐_}
 use Rattle.rules.specs.FormulaLaws.{choose-yes, choose-no}

@@ -1,4 +1,4 @@
--- `class::printing::write_last` meets its contract.
+-- `class::printing::write_last` meets its contract, by whether the class stopped: the sums, or the stop.
 use native.Mathlib.Omega.{arith}
 use Rattle.rules.specs.Formula.{Formula._≐_}
 use Rattle.rules.specs.FormulaLaws.{choose-yes, choose-no}

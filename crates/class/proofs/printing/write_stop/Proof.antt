@@ -1,4 +1,4 @@
--- `class::printing::write_stop` meets its contract.
+-- `class::printing::write_stop` meets its contract: the word and then the number, by `put-then`.
 use native.Mathlib.Omega.{arith}
 use Rattle.text.specs.Put.{put-then}
 use Rattle.class_rules.specs.Report.{stopLine}

@@ -1,4 +1,4 @@
--- `class::steps::asks` meets its contract.
+-- `class::steps::asks` meets its contract: stage by stage, of a sheet by `asks_sheet`.
 use mathlib.Core.Path.{ap, sym, _∙_}
 use native.Mathlib.Omega.{arith}
 use Rattle.class.specs.Steps.{asksAt}

@@ -1,4 +1,4 @@
--- `class::steps::asks_sheet` meets its contract.
+-- `class::steps::asks_sheet` meets its contract, by whether the length is at most the most bytes of a sheet.
 use mathlib.Core.Path.{sym}
 use native.Mathlib.Omega.{arith}
 use Rattle.rules.specs.Formula.{Formula._≼_}

@@ -1,4 +1,4 @@
--- `class::steps::begin` meets its contract.
+-- `class::steps::begin` meets its contract, by the definition of `begun`, with what `start` and `empty` give.
 use Rattle.class.specs.Steps.{begun}
 use mathlib.Core.Path.{refl}
 use borrow.Author.Needs.{needs}

@@ -1,4 +1,4 @@
--- `class::steps::close` meets its contract.
+-- `class::steps::close` meets its contract: field by field, with what `start` gives.
 use mathlib.Core.Path.{refl}
 use borrow.Author.Needs.{needs}
 use Rattle.class.proofs.steps.close.Statement.{statement}

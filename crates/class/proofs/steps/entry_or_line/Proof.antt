@@ -1,4 +1,4 @@
--- `class::steps::entry_or_line` meets its contract.
+-- `class::steps::entry_or_line` meets its contract, by whether no entry is left (`line-next`, `entry-next`).
 use Rattle.class.specs.Steps.{line-next, entry-next}
 use Rattle.class.proofs.steps.entry_or_line.Statement.{statement}
 use Rattle.class.proofs.steps.entry_or_line.Tie as tie

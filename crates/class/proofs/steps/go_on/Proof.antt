@@ -1,4 +1,4 @@
--- `class::steps::go_on` meets its contract.
+-- `class::steps::go_on` meets its contract, by the definition of `going`, with what `entry_or_line` and `start` give.
 use mathlib.Core.Path.{refl}
 use Rattle.class.specs.Steps.{going}
 use borrow.Author.Needs.{needs}

@@ -1,4 +1,4 @@
--- `class::steps::hold` meets its contract.
+-- `class::steps::hold` meets its contract: what `go_on` gives, with one entry less and the sheet turned in.
 use borrow.Author.Needs.{needs}
 use Rattle.class.proofs.steps.hold.Statement.{statement}
 use Rattle.class.proofs.steps.hold.Tie as tie

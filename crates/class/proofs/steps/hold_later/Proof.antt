@@ -1,4 +1,4 @@
--- `class::steps::hold_later` meets its contract.
+-- `class::steps::hold_later` meets its contract: what `go_on` gives, with the sheet that supersedes.
 use borrow.Author.Needs.{needs}
 use Rattle.class.proofs.steps.hold_later.Statement.{statement}
 use Rattle.class.proofs.steps.hold_later.Tie as tie
@@ -16,7 +16,12 @@ go-on-requires : tie.Need-go-on-requires
 go-on-requires c κs = search needs
 
 returns : tie.Need-returns
-returns c = rw (c .before .before .before .before .one-less .ensures, rw (c .before .before .before .turned-in .ensures) at (c .before .before .supersede .ensures)) at (c .go-on .ensures)
+returns c =
+    let at-one-less = c .before .before .before .before in
+    rw (
+      at-one-less .one-less .ensures,
+      rw (c .before .before .before .turned-in .ensures) at (c .before .before .supersede .ensures),
+    ) at (c .go-on .ensures)
 
 pub hold-later-spec : {M : Type 1} → statement M
 hold-later-spec =

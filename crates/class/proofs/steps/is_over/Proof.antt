@@ -1,4 +1,4 @@
--- `class::steps::is_over` meets its contract.
+-- `class::steps::is_over` meets its contract, stage by stage.
 use mathlib.Core.Path.{ap, sym}
 use Rattle.class.specs.Steps.{isOver}
 use borrow.Author.Needs.{needs}

@@ -1,4 +1,4 @@
--- `class::steps::print_head` meets its contract.
+-- `class::steps::print_head` meets its contract: the line by `write_head`, the report by `at_stage`.
 use native.Mathlib.Omega.{arith}
 use borrow.Author.Needs.{needs}
 use Rattle.class.proofs.steps.print_head.Statement.{statement}

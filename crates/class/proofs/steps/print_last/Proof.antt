@@ -1,4 +1,4 @@
--- `class::steps::print_last` meets its contract.
+-- `class::steps::print_last` meets its contract: the line by `write_last`, the report by `at_stage`.
 use borrow.Author.Needs.{needs}
 use Rattle.class.proofs.steps.print_last.Statement.{statement}
 use Rattle.class.proofs.steps.print_last.Tie as tie

@@ -1,4 +1,4 @@
--- `class::steps::print_pending` meets its contract.
+-- `class::steps::print_pending` meets its contract: with nobody pending by `moved-still`, with a sheet pending by `moved-ran`.
 use mathlib.Core.Path.{refl, ap, _∙_}
 use Rattle.class.specs.Steps.{closing, closed}
 use Rattle.class.specs.Stepped.{moved-as, moved-still, moved-ran}
@@ -28,7 +28,8 @@ returns : tie.Need-returns
 unfolding closed
 returns c =
     let a = c .before .before .before .before .before .before .before .before .args in
-    moved-as (ap (closed _ (a .report) _) (c .before .before .before .enum-told .given .1)) (moved-still _ _ _ _ (c .silent .ensures .0 ∙ c .before .close .ensures) (c .silent .ensures .1))
+    moved-as (ap (closed _ (a .report) _) (c .before .before .before .enum-told .given .1))
+    (moved-still _ _ _ _ (c .silent .ensures .0 ∙ c .before .close .ensures) (c .silent .ensures .1))
 
 same-length : tie.Need-same-length
 same-length c = search needs
@@ -39,9 +40,12 @@ same-length-2 c = search needs
 returns-2 : tie.Need-returns-2
 unfolding closed
 returns-2 c =
-    let a = c .before .before .before .before .before .before .before .before .before .before .before .before .before .before .before .before .args in
-    moved-as (ap (closed _ (a .report) _) (c .before .before .before .before .before .before .before .before .before .before .before .pending .given .1))
-    (moved-ran _ _ (closing (a .report)) _ (c .before .before .before .before .before .before .run-sheet .ensures) (c .close2 .ensures) refl)
+    let at-run-sheet = c .before .before .before .before .before .before in
+    let at-pending = at-run-sheet .before .before .before .before .before in
+    let entry = at-pending .before .before .before .before .before in
+    let a = entry .args in
+    moved-as (ap (closed _ (a .report) _) (at-pending .pending .given .1))
+    (moved-ran _ _ (closing (a .report)) _ (at-run-sheet .run-sheet .ensures) (c .close2 .ensures) refl)
 
 pub print-pending-spec : {M : Type 1} → statement M
 print-pending-spec =

@@ -1,4 +1,5 @@
--- `class::steps::supersede` meets its contract: the place is that of the one with the higher turn, and of equal turns of the later.
+-- `class::steps::supersede` meets its contract: the place is that
+-- of the one with the higher turn, and of equal turns of the later.
 use mathlib.Core.Path.{refl}
 use native.Mathlib.Omega.{arith}
 use Rattle.rules.specs.Formula.{Formula._≼_}

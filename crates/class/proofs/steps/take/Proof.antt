@@ -161,9 +161,11 @@ same-length-3 c = search needs
 returns-6 : tie.Need-returns-6
 unfolding doesAt
 returns-6 c =
-    let s = c .before .before .before .before .before .before .before .before .before .before .before .before in
-    took-at (s .args .report) _ _ _ _ _ _ _ _ _ (c .before .before .before .before .before .before .before .enum-told6 .given .1) (s .pre .0 .1)
-    (c .before .before .before .before .take-sheet .ensures)
+    let at-take-sheet = c .before .before .before .before in
+    let at-enum-told6 = at-take-sheet .before .before .before in
+    let s = at-enum-told6 .before .before .before .before .before in
+    took-at (s .args .report) _ _ _ _ _ _ _ _ _ (at-enum-told6 .enum-told6 .given .1) (s .pre .0 .1)
+    (at-take-sheet .take-sheet .ensures)
 
 same-length-4 : tie.Need-same-length-4
 same-length-4 c = search needs
@@ -174,9 +176,11 @@ same-length-5 c = search needs
 returns-7 : tie.Need-returns-7
 unfolding doesAt
 returns-7 c =
-    let s = c .before .before .before .before .before .before .before .before .before .before .before .before in
-    took-at (s .args .report) _ _ _ _ _ _ _ _ _ (c .before .before .before .before .before .before .before .enum-told7 .given .1) (s .pre .0 .1)
-    (c .before .before .before .before .print-pending .ensures)
+    let at-print-pending = c .before .before .before .before in
+    let at-enum-told7 = at-print-pending .before .before .before in
+    let s = at-enum-told7 .before .before .before .before .before in
+    took-at (s .args .report) _ _ _ _ _ _ _ _ _ (at-enum-told7 .enum-told7 .given .1) (s .pre .0 .1)
+    (at-print-pending .print-pending .ensures)
 
 same-length-6 : tie.Need-same-length-6
 same-length-6 c = search needs
@@ -193,7 +197,8 @@ unfolding doesAt
 returns-9 c =
     let s = c .before .before .before .before .before .before .before .before in
     took-at (s .args .report) _ _ _ _ _ _ _ _ _ (c .before .before .before .enum-told9 .given .1) (s .pre .0 .1)
-    (moved-still _ _ _ _ (c .silent5 .ensures .0 ∙ rw (c .before .before .start .ensures) at (c .before .at-stage .ensures)) (c .silent5 .ensures .1))
+    (moved-still _ _ _ _ (c .silent5 .ensures .0 ∙ rw (c .before .before .start .ensures) at (c .before .at-stage .ensures))
+    (c .silent5 .ensures .1))
 
 pub take-spec : {M : Type 1} → statement M
 take-spec =

@@ -19,7 +19,8 @@ returns : tie.Need-returns
 unfolding after
 returns c =
     let a = c .before .before .before .before .before .before .before .before .args in
-    rw (fails (a .sheet .learner ≼ a .report .learner) (λ h. omega arith)) (moved-still _ _ _ _ (c .silent .ensures .0 ∙ c .before .stopped .ensures) (c .silent .ensures .1))
+    rw (fails (a .sheet .learner ≼ a .report .learner) (λ h. omega arith))
+    (moved-still _ _ _ _ (c .silent .ensures .0 ∙ c .before .stopped .ensures) (c .silent .ensures .1))
 
 hold-later-requires : tie.Need-hold-later-requires
 hold-later-requires c κs = search needs
@@ -31,7 +32,10 @@ returns-2 : tie.Need-returns-2
 unfolding after
 returns-2 c =
     let a = c .before .before .before .before .before .before .before .before .before .before .before .args in
-    rw (passes (a .sheet .learner ≼ a .report .learner) (omega arith), passes (a .sheet .learner ≐ a .report .learner) (omega arith))
+    rw (
+      passes (a .sheet .learner ≼ a .report .learner) (omega arith),
+      passes (a .sheet .learner ≐ a .report .learner) (omega arith),
+    )
     (moved-still _ _ _ _ (c .silent2 .ensures .0 ∙ c .before .hold-later .ensures) (c .silent2 .ensures .1))
 
 run-sheet-requires : tie.Need-run-sheet-requires
@@ -49,9 +53,14 @@ same-length-2 c = search needs
 returns-3 : tie.Need-returns-3
 unfolding after
 returns-3 c =
-    let a = c .before .before .before .before .before .before .before .before .before .before .before .before .before .before .before .before .before .before .before .args in
-    rw (passes (a .sheet .learner ≼ a .report .learner) (omega arith), fails (a .sheet .learner ≐ a .report .learner) (λ h. omega arith))
-    (moved-ran _ _ (holding (a .report) (a .place)) _ (c .before .before .before .before .before .before .run-sheet .ensures) (c .hold .ensures) refl)
+    let a = c .before .before .before .before .before .before .before .before .before .before .before .before .before
+    .before .before .before .before .before .before .args in
+    rw (
+      passes (a .sheet .learner ≼ a .report .learner) (omega arith),
+      fails (a .sheet .learner ≐ a .report .learner) (λ h. omega arith),
+    )
+    (moved-ran _ _ (holding (a .report) (a .place)) _ (c .before .before .before .before .before .before .run-sheet .ensures)
+    (c .hold .ensures) refl)
 
 pub take-after-spec : {M : Type 1} → statement M
 take-after-spec =

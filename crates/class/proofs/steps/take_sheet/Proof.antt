@@ -23,7 +23,8 @@ returns c =
     let a = c .before .before .before .before .before .before .before .args in
     let rest = drop (a .place) (a .room .now) in
     let bytes = take (a .end - a .place) rest in
-    rw (fails (fits bytes 0 (a .report .length)) (λ h. omega (arith, h .0))) (moved-still _ _ _ _ (c .silent .ensures .0 ∙ c .before .stopped .ensures) (c .silent .ensures .1))
+    rw (fails (fits bytes 0 (a .report .length)) (λ h. omega (arith, h .0)))
+    (moved-still _ _ _ _ (c .silent .ensures .0 ∙ c .before .stopped .ensures) (c .silent .ensures .1))
 
 sub-if2 : tie.Need-sub-if2
 sub-if2 c = search needs
@@ -40,7 +41,8 @@ returns-2 c =
     let a = c .before .before .before .before .before .before .before .before .args in
     let rest = drop (a .place) (a .room .now) in
     let bytes = take (a .end - a .place) rest in
-    rw (fails (fits bytes 0 (a .report .length)) (λ h. omega (arith, h .1, length-take (a .end - a .place) rest, length-drop (a .place) (a .room .now))))
+    rw (fails (fits bytes 0 (a .report .length))
+    (λ h. omega (arith, h .1, length-take (a .end - a .place) rest, length-drop (a .place) (a .room .now))))
     (moved-still _ _ _ _ (c .silent2 .ensures .0 ∙ c .before .stopped2 .ensures) (c .silent2 .ensures .1))
 
 take-whole-requires : tie.Need-take-whole-requires
@@ -58,7 +60,8 @@ returns-3 c =
     let a = c .before .before .before .before .before .before .before .before .before .before .before .before .before .args in
     let rest = drop (a .place) (a .room .now) in
     let bytes = take (a .end - a .place) rest in
-    rw (passes (fits bytes 0 (a .report .length)) (omega arith, omega (arith, length-take (a .end - a .place) rest, length-drop (a .place) (a .room .now))))
+    rw (passes (fits bytes 0 (a .report .length))
+    (omega arith, omega (arith, length-take (a .end - a .place) rest, length-drop (a .place) (a .room .now))))
     (c .before .before .before .before .take-whole .ensures)
 
 pub take-sheet-spec : {M : Type 1} → statement M

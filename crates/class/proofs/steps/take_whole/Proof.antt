@@ -1,4 +1,4 @@
--- `class::steps::take_whole` meets its contract.
+-- `class::steps::take_whole` meets its contract: with nobody pending the sheet is held, else by `take_after`.
 use mathlib.Core.Path.{ap, _∙_}
 use Rattle.class.specs.Steps.{taken}
 use Rattle.class.specs.Stepped.{moved-as, moved-still}
@@ -25,7 +25,8 @@ returns : tie.Need-returns
 unfolding taken
 returns c =
     let a = c .before .before .before .before .before .before .before .before .args in
-    moved-as (ap (taken _ (a .report) _ (a .place)) (c .before .before .before .enum-told .given .1)) (moved-still _ _ _ _ (c .silent .ensures .0 ∙ c .before .hold .ensures) (c .silent .ensures .1))
+    moved-as (ap (taken _ (a .report) _ (a .place)) (c .before .before .before .enum-told .given .1))
+    (moved-still _ _ _ _ (c .silent .ensures .0 ∙ c .before .hold .ensures) (c .silent .ensures .1))
 
 same-length : tie.Need-same-length
 same-length c = search needs
@@ -36,8 +37,10 @@ same-length-2 c = search needs
 returns-2 : tie.Need-returns-2
 unfolding taken
 returns-2 c =
-    let a = c .before .before .before .before .before .before .before .before .before .before .before .before .before .args in
-    moved-as (ap (taken _ (a .report) _ (a .place)) (c .before .before .before .before .before .before .before .before .pending .given .1)) (c .before .before .before .before .take-after .ensures)
+    let at-take-after = c .before .before .before .before in
+    let at-pending = at-take-after .before .before .before .before in
+    let a = at-pending .before .before .before .before .before .args in
+    moved-as (ap (taken _ (a .report) _ (a .place)) (at-pending .pending .given .1)) (at-take-after .take-after .ensures)
 
 pub take-whole-spec : {M : Type 1} → statement M
 take-whole-spec =

@@ -1,4 +1,4 @@
--- `class::steps::with_value` meets its contract.
+-- `class::steps::with_value` meets its contract, stage by stage.
 use mathlib.Core.Path.{ap, sym, _∙_}
 use Rattle.class.specs.Steps.{valued}
 use borrow.Author.Needs.{needs}
@@ -70,23 +70,28 @@ returns-4 c =
 
 returns-5 : tie.Need-returns-5
 unfolding valued
-returns-5 c = let a = c .before .before .before .args in ap (λ stage. valued (a .report) stage (a .v)) (sym (c .enum-told5 .given .1))
+returns-5 c =
+    let a = c .before .before .before .args in ap (λ stage. valued (a .report) stage (a .v)) (sym (c .enum-told5 .given .1))
 
 returns-6 : tie.Need-returns-6
 unfolding valued
-returns-6 c = let a = c .before .before .before .args in ap (λ stage. valued (a .report) stage (a .v)) (sym (c .enum-told6 .given .1))
+returns-6 c =
+    let a = c .before .before .before .args in ap (λ stage. valued (a .report) stage (a .v)) (sym (c .enum-told6 .given .1))
 
 returns-7 : tie.Need-returns-7
 unfolding valued
-returns-7 c = let a = c .before .before .before .args in ap (λ stage. valued (a .report) stage (a .v)) (sym (c .enum-told7 .given .1))
+returns-7 c =
+    let a = c .before .before .before .args in ap (λ stage. valued (a .report) stage (a .v)) (sym (c .enum-told7 .given .1))
 
 returns-8 : tie.Need-returns-8
 unfolding valued
-returns-8 c = let a = c .before .before .before .args in ap (λ stage. valued (a .report) stage (a .v)) (sym (c .enum-told8 .given .1))
+returns-8 c =
+    let a = c .before .before .before .args in ap (λ stage. valued (a .report) stage (a .v)) (sym (c .enum-told8 .given .1))
 
 returns-9 : tie.Need-returns-9
 unfolding valued
-returns-9 c = let a = c .before .before .before .args in ap (λ stage. valued (a .report) stage (a .v)) (sym (c .enum-told9 .given .1))
+returns-9 c =
+    let a = c .before .before .before .args in ap (λ stage. valued (a .report) stage (a .v)) (sym (c .enum-told9 .given .1))
 
 pub with-value-spec : {M : Type 1} → statement M
 with-value-spec =

@@ -5,7 +5,7 @@ use lib.ListN.{length}
 use native.Mathlib.Omega.{arith}
 use borrow.Author.Needs.{needs}
 use Rattle.turns.specs.Places.{least}
-use Rattle.class_parts.specs.Parts.{handed-bytes, stepped-on}
+use Rattle.class_parts.specs.ReportParts.{handed-bytes, stepped-on}
 use Rattle.class_parts.proofs.parts.step_on.Statement.{statement}
 use Rattle.class_parts.proofs.parts.step_on.Tie as tie
 
@@ -51,8 +51,10 @@ returns c =
     let n = c .before .before .before .before .before .before .before .before .before .least-of .ensures in
     let asked = c .before .before .before .before .before .before .before .before .before .before .asks .ensures .0 in
     let b =
-    handed-bytes (a .file .now) (a .place) (a .report) _ (n .0 ∙ ap (λ (k : ℕ). least k (length (a .file .now) - a .place)) asked) (n .1) (s .pre .1 .0) in
-    stepped-on (a .file .now) (a .place) (a .report) _ _ _ (a .lines .now) _ (a .used) _ _ _ (omega (arith, s .pre .1 .1)) refl (b .0) (b .1)
+    handed-bytes (a .file .now) (a .place) (a .report) _ (n .0 ∙ ap (λ (k : ℕ). least k (length (a .file .now) - a .place)) asked)
+    (n .1) (s .pre .1 .0) in
+    stepped-on (a .file .now) (a .place) (a .report) _ _ _ (a .lines .now) _ (a .used) _ _ _ (omega (arith, s .pre .1 .1)) refl
+    (b .0) (b .1)
     (c .before .before .before .before .before .before .take .ensures)
 
 pub step-on-spec : {M : Type 1} → statement M

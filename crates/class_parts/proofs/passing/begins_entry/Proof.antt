@@ -33,7 +33,16 @@ returns-8 : tie.Need-returns-8
 returns-8 c = λ e. not-so e
 
 returns-9 : tie.Need-returns-9
-returns-9 c = λ _. (begins _ (c .before .before .before .before .before .before .before .before .before .before .before .before .before .before .before .enum-told .given .1) (c .before .before .before .before .before .before .before .before .before .before .before .before .if1 .left) (c .before .before .before .before .before .before .before .before .before .before .if2 .left) (c .before .before .before .before .before .before .before .before .if3 .left) (c .before .before .before .before .before .before .if4 .left) (c .before .before .before .before .if5 .left) (c .before .before .if6 .left) (c .if7 .left), omega arith)
+returns-9 c =
+    let at-if5 = c .before .before .before .before in
+    let at-if3 = at-if5 .before .before .before .before in
+    let at-if1 = at-if3 .before .before .before .before in
+    let at-enum-told = at-if1 .before .before .before in
+    λ _. (
+      begins _ (at-enum-told .enum-told .given .1) (at-if1 .if1 .left) (at-if3 .before .before .if2 .left) (at-if3 .if3 .left)
+          (at-if5 .before .before .if4 .left) (at-if5 .if5 .left) (c .before .before .if6 .left) (c .if7 .left),
+      omega arith,
+    )
 
 pub begins-entry-spec : {M : Type 1} → statement M
 begins-entry-spec =

@@ -34,28 +34,32 @@ enum-told c = search needs
 
 is-whole-requires : tie.Need-is-whole-requires Inv-loop μ-loop
 is-whole-requires c κs =
-    let s = c .before .before .before .before .before .before .before .before .before .before in
-    let l = c .before .before .before .before .before .before .before .before .loop in
+    let at-next = c .before .before .before .before in
+    let s = at-next .before .before .before .before .before .before in
+    let l = at-next .before .before .before .before .loop in
     let f = s .args .file .now in
-    let is = sym (c .before .before .before .before .before .before .header-at .ensures) ∙ c .before .before .before .before .next .given .1 in
+    let is = sym (at-next .before .before .header-at .ensures) ∙ at-next .next .given .1 in
     header-inside f (l .at) _ is
 
 supersede-requires : tie.Need-supersede-requires Inv-loop μ-loop
 supersede-requires c κs =
-    let s = c .before .before .before .before .before .before .before .before .before .before .before .before in
-    let l = c .before .before .before .before .before .before .before .before .before .before .loop in
+    let at-next = c .before .before .before .before .before .before in
+    let s = at-next .before .before .before .before .before .before in
+    let l = at-next .before .before .before .before .loop in
     let f = s .args .file .now in
-    let is = sym (c .before .before .before .before .before .before .before .before .header-at .ensures) ∙ c .before .before .before .before .before .before .next .given .1 in
+    let is = sym (at-next .before .before .header-at .ensures) ∙ at-next .next .given .1 in
     header-inside f (l .at) _ is
 
 add-at : tie.Need-add-at Inv-loop μ-loop
 add-at c =
-    let s = c .before .before .before .before .before .before .before .before .before .before .before .before .before .before in
-    let l = c .before .before .before .before .before .before .before .before .before .before .before .before .loop in
+    let at-next = c .before .before .before .before .before .before .before .before in
+    let s = at-next .before .before .before .before .before .before in
+    let l = at-next .before .before .before .before .loop in
     let f = s .args .file .now in
-    let is = sym (c .before .before .before .before .before .before .before .before .before .before .header-at .ensures) ∙ c .before .before .before .before .before .before .before .before .next .given .1 in
-    let w = passed (fits f (c .before .before .before .before .before .before .before .before .next .given .0 .0 .place) (c .before .before .before .before .before .before .before .before .next .given .0 .0 .length)) (sym (c .before .before .before .is-whole .ensures) ∙ not-false _ (c .before .before .if2 .left)) in
-    omega (arith, w .1, length-drop (c .before .before .before .before .before .before .before .before .next .given .0 .0 .place) f, header-inside f (l .at) _ is)
+    let is = sym (at-next .before .before .header-at .ensures) ∙ at-next .next .given .1 in
+    let w = passed (fits f (at-next .next .given .0 .0 .place) (at-next .next .given .0 .0 .length))
+    (sym (c .before .before .before .is-whole .ensures) ∙ not-false _ (c .before .before .if2 .left)) in
+    omega (arith, w .1, length-drop (at-next .next .given .0 .0 .place) f, header-inside f (l .at) _ is)
 
 sub-more : tie.Need-sub-more Inv-loop μ-loop
 sub-more c = search needs
@@ -65,13 +69,18 @@ loop-less c = search needs
 
 loop-again : tie.Need-loop-again Inv-loop μ-loop
 loop-again c =
-    let s = c .before .before .before .before .before .before .before .before .before .before .before .before .before .before in
-    let l = c .before .before .before .before .before .before .before .before .before .before .before .before .loop in
+    let at-if1 = c .before .before .before .before in
+    let at-next = at-if1 .before .before .before .before in
+    let at-loop-test = at-next .before .before .before in
+    let s = at-loop-test .before .before .before in
+    let l = at-loop-test .before .loop in
     let f = s .args .file .now in
-    let is = sym (c .before .before .before .before .before .before .before .before .before .before .header-at .ensures) ∙ c .before .before .before .before .before .before .before .before .next .given .1 in
-    let w = passed (fits f (c .before .before .before .before .before .before .before .before .next .given .0 .0 .place) (c .before .before .before .before .before .before .before .before .next .given .0 .0 .length)) (sym (c .before .before .before .is-whole .ensures) ∙ not-false _ (c .before .before .if2 .left)) in
-    let m = passed-more f (s .args .place) _ (l .at) (l .more) (l .held) _ (s .args .tally) (c .before .before .before .before .before .before .before .before .before .before .before .loop-test .taken) (l .inv .0) is (c .before .before .before .before .if1 .left) w in
-    (rw (c .before .supersede .ensures) m, omega (arith, c .before .before .before .before .before .before .before .before .before .before .before .loop-test .taken))
+    let is = sym (at-next .before .before .header-at .ensures) ∙ at-next .next .given .1 in
+    let w = passed (fits f (at-next .next .given .0 .0 .place) (at-next .next .given .0 .0 .length))
+    (sym (c .before .before .before .is-whole .ensures) ∙ not-false _ (c .before .before .if2 .left)) in
+    let m = passed-more f (s .args .place) _ (l .at) (l .more) (l .held) _ (s .args .tally) (at-loop-test .loop-test .taken)
+    (l .inv .0) is (at-if1 .if1 .left) w in
+    (rw (c .before .supersede .ensures) m, omega (arith, at-loop-test .loop-test .taken))
 
 go-on-requires : tie.Need-go-on-requires Inv-loop μ-loop
 go-on-requires c κs = search needs
@@ -86,7 +95,8 @@ returns : tie.Need-returns Inv-loop μ-loop
 returns c =
     let s = c .before .before .before .before .before in
     let l = c .before .before .before .loop in
-    passed-then (s .args .file .now) (s .args .place) (l .at) _ _ _ _ (l .inv .0) (rw (c .before .go-on .ensures) at (c .pass-numbers .ensures))
+    passed-then (s .args .file .now) (s .args .place) (l .at) _ _ _ _ (l .inv .0)
+    (rw (c .before .go-on .ensures) at (c .pass-numbers .ensures))
 
 pub pass-from-spec : {M : Type 1} → statement M
 pass-from-spec =

@@ -1,4 +1,4 @@
--- `class_parts::passing::pass_numbers` meets its contract.
+-- `class_parts::passing::pass_numbers` meets its contract: the numbers read (`passed-numbers`), or none (`passed-none`).
 use mathlib.Core.Path.{ap, sym, subst, _∙_}
 use Rattle.class.specs.declared.Report.{Report}
 use Rattle.class.specs.declared.Stage.the-variants.{Sheet}
@@ -22,19 +22,23 @@ enum-told c = search needs
 
 returns : tie.Need-returns
 returns c =
-    let s = c .before .before .before .before .before .before in
+    let at-header-at = c .before .before .before .before in
+    let s = at-header-at .before .before in
     let f = s .args .file .now in
     let at = s .args .place in
     let r = s .args .report in
     let begins = s .pre .1 in
     let e = c .before .before .next .given .0 .0 in
     let w = subst (λ (q : Report). Passed f at r at q) begins (passed-none f at r (s .pre .0)) in
-    let n = passed-numbers f at r at (r .left) (r .pending) (r .tally) e (s .pre .2) w (sym (c .before .before .before .before .header-at .ensures) ∙ c .before .before .next .given .1) in
+    let n = passed-numbers f at r at (r .left) (r .pending) (r .tally) e (s .pre .2) w
+    (sym (at-header-at .header-at .ensures) ∙ c .before .before .next .given .1) in
     subst (λ (q : Report). Passed f at r (e .place) q)
     (sym (c .with-entry .ensures ∙ ap (λ (q : Report). entryTo q Sheet (e .learner) (e .turn) (e .length)) begins)) n
 
 returns-2 : tie.Need-returns-2
-returns-2 c = let s = c .before .before .before .before in passed-none (s .args .file .now) (s .args .place) (s .args .report) (s .pre .0)
+returns-2 c =
+    let s = c .before .before .before .before in
+    passed-none (s .args .file .now) (s .args .place) (s .args .report) (s .pre .0)
 
 pub pass-numbers-spec : {M : Type 1} → statement M
 pass-numbers-spec =

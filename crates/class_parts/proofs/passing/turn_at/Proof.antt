@@ -32,11 +32,17 @@ returns c =
 
 returns-2 : tie.Need-returns-2
 unfolding turnAt met
-returns-2 c = let a = c .before .before .before .before .args in sym (ap (λ (r : Reading). met r (λ _. Other) (lengthAt (a .file .now) (a .learner))) (sym (c .before .before .read .ensures) ∙ c .enum-told .given .1))
+returns-2 c =
+    let a = c .before .before .before .before .args in
+    sym (ap (λ (r : Reading). met r (λ _. Other) (lengthAt (a .file .now) (a .learner)))
+    (sym (c .before .before .read .ensures) ∙ c .enum-told .given .1))
 
 returns-3 : tie.Need-returns-3
 unfolding turnAt met
-returns-3 c = let a = c .before .before .before .before .args in sym (ap (λ (r : Reading). met r (λ _. Other) (lengthAt (a .file .now) (a .learner))) (sym (c .before .before .read .ensures) ∙ c .enum-told2 .given .1))
+returns-3 c =
+    let a = c .before .before .before .before .args in
+    sym (ap (λ (r : Reading). met r (λ _. Other) (lengthAt (a .file .now) (a .learner)))
+    (sym (c .before .before .read .ensures) ∙ c .enum-told2 .given .1))
 
 pub turn-at-spec : {M : Type 1} → statement M
 turn-at-spec =

@@ -1,3 +1,5 @@
+-- `effects::firing::has_link` meets its contract: none of the first k of the eight links is from e, so one that is decides
+-- (`passes`), and after eight there is none (`fails`).
 use Prim.Native.Nat.{ℕ, _≤_, _<_, _+_, _-_}
 use mathlib.Core.Path.{_≡_, sym, _∙_}
 use native.Mathlib.Omega.{arith}

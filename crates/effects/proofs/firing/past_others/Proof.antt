@@ -1,7 +1,9 @@
+-- `effects::firing::past_others` meets its contract: where it stays nothing is passed (`passed-none`), and where none of eight
+-- links is from e, the eight are (`passed-eight`).
 use mathlib.Core.Path.{refl, sym, _∙_}
 use borrow.Author.Needs.{needs}
 use Rattle.rules.specs.FormulaLaws.{failed}
-use Rattle.effects.specs.Firing.{passed-none, passed-eight}
+use Rattle.effects.specs.OpenLinks.{passed-none, passed-eight}
 use Rattle.effects.proofs.firing.past_others.Statement.{statement}
 use Rattle.effects.proofs.firing.past_others.Tie as tie
 

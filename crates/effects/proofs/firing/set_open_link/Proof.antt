@@ -1,6 +1,8 @@
+-- `effects::firing::set_open_link` meets its contract: of an open link of e the state is put (`set-yes`), and of any other
+-- nothing is written, which is the row as it was (`set-no`).
 use mathlib.Core.Path.{sym, _∙_}
 use Rattle.session.specs.TableLaws.{wrote-none}
-use Rattle.effects.specs.Firing.{set-yes, set-no}
+use Rattle.effects.specs.OpenLinks.{set-yes, set-no}
 use borrow.Author.Needs.{needs}
 use Rattle.effects.proofs.firing.set_open_link.Statement.{statement}
 use Rattle.effects.proofs.firing.set_open_link.Tie as tie
@@ -21,7 +23,8 @@ returns : tie.Need-returns
 returns c =
     let f = c .before .before in
     let g = f .before .before in
-    rw (set-yes _ _ _ _ (sym (g .before .before .before .before .get .ensures) ∙ g .before .before .before .if1 .taken) (sym (g .before .get2 .ensures) ∙ g .if2 .taken)) (f .set .ensures)
+    rw (set-yes _ _ _ _ (sym (g .before .before .before .before .get .ensures) ∙ g .before .before .before .if1 .taken)
+    (sym (g .before .get2 .ensures) ∙ g .if2 .taken)) (f .set .ensures)
 
 same-length-2 : tie.Need-same-length-2
 same-length-2 c = search needs

@@ -1,18 +1,22 @@
+-- `effects::firing::set_open_links` meets its contract: the links before l are swept, one more by `set-more` or eight more by
+-- `set-pass`; past the count there is no link (`set-end`).
 use Prim.Native.Nat.{_≤_, _+_, _-_}
 use mathlib.Core.Path.{_≡_}
 use native.Mathlib.Omega.{arith}
 use lib.ListN.{length}
 use borrow.Author.Needs.{needs}
+use Rattle.session.specs.Names.{mostLinks}
 use Rattle.session.specs.Table.{Wrote, read, sweep, words}
 use Rattle.session.specs.TableLaws.{sweep-zero, wrote-none, wrote-then}
 use Rattle.session.specs.declared.Field.the-variants.{Links, LinkState}
-use Rattle.effects.specs.Firing.{NoMoreLinks, linkSet, set-more, set-pass, set-end}
+use Rattle.effects.specs.OpenLinks.{NoMoreLinks, linkSet, set-more, set-pass, set-end}
 use Rattle.effects.proofs.firing.set_open_links.Statement.{statement}
 use Rattle.effects.proofs.firing.set_open_links.Tie as tie
 
 abbrev Inv-loop : tie.InvT-loop
 Inv-loop s₀ e v n l₀ s l =
-    (n ≡ read s₀ Links 0) × (n ≤ 2048) × (words ≤ length s₀) × NoMoreLinks (read s₀) × Wrote s₀ s (sweep (read s₀) LinkState l (linkSet (read s₀) e v))
+    (n ≡ read s₀ Links 0) × (n ≤ mostLinks) × (words ≤ length s₀) × NoMoreLinks (read s₀)
+    × Wrote s₀ s (sweep (read s₀) LinkState l (linkSet (read s₀) e v))
 
 abbrev μ-loop : tie.MeasureT-loop
 μ-loop s₀ e v n l₀ s l = n + 1 - l

@@ -1,3 +1,5 @@
+-- `effects::linking::claim` meets its contract: of a task, whose slot is then below 16, the mode is put (`choose-yes`), else
+-- nothing (`choose-no`).
 use Prim.Native.Nat.{_<_}
 use native.Mathlib.Omega.{arith}
 use Rattle.session.specs.TableLaws.{wrote-none}
@@ -15,12 +17,14 @@ mul-set c = search needs
 
 add-set : tie.Need-add-set
 add-set c =
-    let j : c .before .before .before .before .before .args .j < 16 = c .before .before .before .before .before .pre .2 (rw (c .before .before .get .ensures) at (c .before .if1 .taken)) in
+    let j : c .before .before .before .before .before .args .j < 16 = c .before .before .before .before .before .pre .2
+    (rw (c .before .before .get .ensures) at (c .before .if1 .taken)) in
     omega arith
 
 set-requires : tie.Need-set-requires
 set-requires c κs =
-    let j : c .before .before .before .before .before .args .j < 16 = c .before .before .before .before .before .pre .2 (rw (c .before .before .get .ensures) at (c .before .if1 .taken)) in
+    let j : c .before .before .before .before .before .args .j < 16 = c .before .before .before .before .before .pre .2
+    (rw (c .before .before .get .ensures) at (c .before .if1 .taken)) in
     (search needs, omega arith)
 
 same-length : tie.Need-same-length
@@ -28,7 +32,10 @@ same-length c = search needs
 
 returns : tie.Need-returns
 unfolding claim
-returns c = rw (choose-yes _ _ _ (rw (c .before .before .before .before .before .get .ensures) at (c .before .before .before .before .if1 .taken))) (c .before .before .set .ensures)
+returns c =
+    rw (choose-yes _ _ _
+    (rw (c .before .before .before .before .before .get .ensures) at (c .before .before .before .before .if1 .taken)))
+    (c .before .before .set .ensures)
 
 same-length-2 : tie.Need-same-length-2
 same-length-2 c = search needs

@@ -1,3 +1,4 @@
+-- `effects::linking::first_link` meets its contract: whether the source has fired chooses (`choose-yes`, `choose-no`).
 use mathlib.Core.Path.{sym}
 use Rattle.rules.specs.FormulaLaws.{choose-yes, choose-no}
 use Rattle.effects.specs.Linking.{firstLink}

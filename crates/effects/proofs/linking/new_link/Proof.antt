@@ -1,7 +1,10 @@
+-- `effects::linking::new_link` meets its contract: the five words put, one after the other (`wrote-more`), are `newLink`; the
+-- answer is the count read and 1.
 use Rattle.session.specs.TableLaws.{wrote-none, wrote-more}
 use Rattle.session.specs.declared.Field.the-variants.{Links, LinkSource, LinkTarget, LinkSlot, LinkState}
 use Rattle.rules.specs.Effects.{newLink}
 use Rattle.effects.specs.Linking.{firstLink}
+use native.Mathlib.Omega.{arith}
 use borrow.Author.Needs.{needs}
 use Rattle.effects.proofs.linking.new_link.Statement.{statement}
 use Rattle.effects.proofs.linking.new_link.Tie as tie
@@ -46,14 +49,17 @@ returns c =
     let one = two .before .before .before .before in
     let count = one .before .before in
     let first = count .before .before in
-    rw (← first .before .get .ensures, ← first .first-link .ensures, ← count .get2 .ensures)
-    (wrote-more LinkState _ _
-    (wrote-more LinkSlot _ _
-    (wrote-more LinkTarget _ _
-    (wrote-more LinkSource _ _ (wrote-more Links _ _ (wrote-none _) (one .set .ensures)) (two .set2 .ensures))
-    (three .set3 .ensures))
-    (four .set4 .ensures))
-    (five .set5 .ensures))
+    record {
+      wrote = rw (← first .before .get .ensures, ← first .first-link .ensures, ← count .get2 .ensures)
+          (wrote-more LinkState _ _
+          (wrote-more LinkSlot _ _
+          (wrote-more LinkTarget _ _
+          (wrote-more LinkSource _ _ (wrote-more Links _ _ (wrote-none _) (one .set .ensures)) (two .set2 .ensures))
+          (three .set3 .ensures))
+          (four .set4 .ensures))
+          (five .set5 .ensures));
+      answer = omega (arith, count .get2 .ensures);
+    }
 
 pub new-link-spec : {M : Type 1} → statement M
 new-link-spec =

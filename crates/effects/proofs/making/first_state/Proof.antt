@@ -1,6 +1,7 @@
+-- `effects::making::first_state` meets its contract: whether there are no pre-slots chooses (`choose-yes`, `choose-no`).
 use mathlib.Core.Path.{sym}
 use Rattle.rules.specs.FormulaLaws.{choose-yes, choose-no}
-use Rattle.effects.specs.Making.{firstState}
+use Rattle.effects.specs.FirstValues.{firstState}
 use Rattle.effects.proofs.making.first_state.Statement.{statement}
 use Rattle.effects.proofs.making.first_state.Tie as tie
 

@@ -1,6 +1,7 @@
+-- `effects::making::first_tally` meets its contract: whether it is a latch chooses (`choose-yes`, `choose-no`).
 use mathlib.Core.Path.{sym}
 use Rattle.rules.specs.FormulaLaws.{choose-yes, choose-no}
-use Rattle.effects.specs.Making.{firstTally}
+use Rattle.effects.specs.FirstValues.{firstTally}
 use Rattle.effects.proofs.making.first_tally.Statement.{statement}
 use Rattle.effects.proofs.making.first_tally.Tie as tie
 

@@ -1,7 +1,9 @@
+-- `effects::making::new_event` meets its contract: what `new_object` wrote and the three words put behind it (`wrote-more`), the
+-- last of them `first_tally`'s, are `newEvent`.
 use Rattle.session.specs.TableLaws.{wrote-more}
 use Rattle.session.specs.declared.Field.the-variants.{EventState, EventType, EventTally}
 use Rattle.rules.specs.Effects.{newEvent}
-use Rattle.effects.specs.Making.{firstTally}
+use Rattle.effects.specs.FirstValues.{firstTally}
 use borrow.Author.Needs.{needs}
 use Rattle.effects.proofs.making.new_event.Statement.{statement}
 use Rattle.effects.proofs.making.new_event.Tie as tie

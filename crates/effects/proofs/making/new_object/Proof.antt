@@ -1,3 +1,4 @@
+-- `effects::making::new_object` meets its contract: the two words put, one after the other (`wrote-more`), are `new`.
 use Rattle.session.specs.TableLaws.{wrote-none, wrote-more}
 use Rattle.session.specs.declared.Field.the-variants.{Objects, Kind}
 use Rattle.rules.specs.Effects.{new}

@@ -1,7 +1,9 @@
+-- `effects::making::new_task` meets its contract: what `new_object` wrote and the five words put behind it (`wrote-more`), the
+-- first of them `first_state`'s, are `newTask`.
 use Rattle.session.specs.TableLaws.{wrote-more}
 use Rattle.session.specs.declared.Field.the-variants.{TaskState, TaskCreator, TaskSlots, TaskFinish, TaskOutput}
 use Rattle.rules.specs.Effects.{newTask}
-use Rattle.effects.specs.Making.{firstState}
+use Rattle.effects.specs.FirstValues.{firstState}
 use borrow.Author.Needs.{needs}
 use Rattle.effects.proofs.making.new_task.Statement.{statement}
 use Rattle.effects.proofs.making.new_task.Tie as tie

@@ -1,3 +1,5 @@
+-- `effects::satisfying::next_tally` meets its contract: whether the slot is 0 chooses (`choose-yes`, `choose-no`), and what is
+-- required keeps both in range.
 use mathlib.Core.Path.{sym}
 use native.Mathlib.Omega.{arith}
 use Rattle.rules.specs.FormulaLaws.{choose-yes, choose-no}

@@ -1,46 +1,18 @@
-use Rattle.rules.specs.FormulaLaws.{choose-yes, choose-no}
-use Rattle.rules.specs.Effects.{satisfy}
+-- `effects::satisfying::satisfy` meets its contract: a sound session that meets the checks is one whose event may be triggered
+-- (`satisfy-ready`), and the rest is `satisfy_event`'s.
+use Rattle.effects.specs.Ready.{satisfy-ready}
 use borrow.Author.Needs.{needs}
 use Rattle.effects.proofs.satisfying.satisfy.Statement.{statement}
 use Rattle.effects.proofs.satisfying.satisfy.Tie as tie
 
-get-requires : tie.Need-get-requires
-get-requires c κs = search needs
-
-satisfy-slot-requires : tie.Need-satisfy-slot-requires
-satisfy-slot-requires c κs =
-    let g = c .before .before in
-    let p = g .before .before .before .pre .1 in
-    (search needs, p .fires .handle, p .fills (rw (g .get .ensures) at (c .before .if1 .taken)))
+satisfy-event-requires : tie.Need-satisfy-event-requires
+satisfy-event-requires c κs = let p = c .before .before .pre in (p .0, satisfy-ready _ _ _ _ _ (p .1) (p .2))
 
 same-length : tie.Need-same-length
 same-length c = search needs
 
 returns : tie.Need-returns
-unfolding satisfy
-returns c = rw (choose-yes _ _ _ (rw (c .before .before .before .before .before .get .ensures) at (c .before .before .before .before .if1 .taken))) (c .before .before .satisfy-slot .ensures)
-
-satisfy-event-requires : tie.Need-satisfy-event-requires
-satisfy-event-requires c κs =
-    let g = c .before .before in
-    let p = g .before .before .before .pre .1 in
-    (search needs, record { fires = p .fires; counts = p .counts (rw (g .get .ensures) at (c .before .if1 .left)) })
-
-same-length-2 : tie.Need-same-length-2
-same-length-2 c = search needs
-
-returns-2 : tie.Need-returns-2
-unfolding satisfy
-returns-2 c = rw (choose-no _ _ _ (rw (c .before .before .before .before .before .get .ensures) at (c .before .before .before .before .if1 .left))) (c .before .before .satisfy-event .ensures)
+returns c = search needs
 
 pub satisfy-spec : {M : Type 1} → statement M
-satisfy-spec =
-    tie.close
-    (tie.spec
-    get-requires
-    satisfy-slot-requires
-    same-length
-    returns
-    satisfy-event-requires
-    same-length-2
-    returns-2)
+satisfy-spec = tie.close (tie.spec satisfy-event-requires same-length returns)

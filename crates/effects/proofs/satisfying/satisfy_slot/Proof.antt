@@ -1,3 +1,5 @@
+-- `effects::satisfying::satisfy_slot` meets its contract: the mark and the payload are put (`wrote-more`); by what `is_full`
+-- answers the state comes behind them (`filled-last`) or does not (`filled-one`).
 use mathlib.Core.Path.{_≡_, sym, _∙_}
 use mathlib.Core.Bool.{true, false}
 use Rattle.session.specs.Table.{read, put}
@@ -29,7 +31,8 @@ is-full-requires c κs =
     let one = two .before .before .before .before in
     let a = one .before .before .before .args in
     let p = one .before .before .before .pre in
-    let w = wrote-more SlotPayload _ (a .p) (wrote-more SlotMark _ _ (wrote-none (a .s .now)) (one .set .ensures)) (two .set2 .ensures) in
+    let w = wrote-more SlotPayload _ (a .p) (wrote-more SlotMark _ _ (wrote-none (a .s .now)) (one .set .ensures))
+    (two .set2 .ensures) in
     (search needs, p .1, rw (w .reading) (p .2 .count))
 
 set-requires-3 : tie.Need-set-requires-3
@@ -44,8 +47,10 @@ returns c =
     let two = f .before .before .before .before in
     let one = two .before .before .before .before in
     let a = one .before .before .before .args in
-    let w = wrote-more SlotPayload _ (a .p) (wrote-more SlotMark _ _ (wrote-none (a .s .now)) (one .set .ensures)) (two .set2 .ensures) in
-    let e : test (full (filled (read (a .s .now)) (a .t) (a .j) (a .p)) (a .t)) ≡ true = rw (w .reading) at (sym (f .is-full .ensures) ∙ c .before .before .before .before .if1 .taken) in
+    let w = wrote-more SlotPayload _ (a .p) (wrote-more SlotMark _ _ (wrote-none (a .s .now)) (one .set .ensures))
+    (two .set2 .ensures) in
+    let e : test (full (filled (read (a .s .now)) (a .t) (a .j) (a .p)) (a .t)) ≡ true = rw (w .reading) at
+    (sym (f .is-full .ensures) ∙ c .before .before .before .before .if1 .taken) in
     rw (← filled-last _ _ _ _ e) (wrote-more TaskState _ _ w (c .before .before .set3 .ensures))
 
 same-length-2 : tie.Need-same-length-2
@@ -57,8 +62,10 @@ returns-2 c =
     let two = f .before .before .before .before in
     let one = two .before .before .before .before in
     let a = one .before .before .before .args in
-    let w = wrote-more SlotPayload _ (a .p) (wrote-more SlotMark _ _ (wrote-none (a .s .now)) (one .set .ensures)) (two .set2 .ensures) in
-    let e : test (full (filled (read (a .s .now)) (a .t) (a .j) (a .p)) (a .t)) ≡ false = rw (w .reading) at (sym (f .is-full .ensures) ∙ c .if1 .left) in
+    let w = wrote-more SlotPayload _ (a .p) (wrote-more SlotMark _ _ (wrote-none (a .s .now)) (one .set .ensures))
+    (two .set2 .ensures) in
+    let e : test (full (filled (read (a .s .now)) (a .t) (a .j) (a .p)) (a .t)) ≡ false = rw (w .reading) at
+    (sym (f .is-full .ensures) ∙ c .if1 .left) in
     rw (← filled-one _ _ _ _ e) w
 
 pub satisfy-slot-spec : {M : Type 1} → statement M

@@ -1,3 +1,5 @@
+-- `effects::satisfying::tally` meets its contract: the new tally is put, and at the count 0 the event is fired behind it
+-- (`choose-yes`, `wrote-next`), else not (`choose-no`).
 use Rattle.session.specs.Table.{put}
 use Rattle.rules.specs.FormulaLaws.{choose-yes, choose-no}
 use Rattle.rules.specs.Effects.{fireOne, tally}
@@ -32,7 +34,8 @@ returns c =
     let one = c .before .before .before .before .before .before .before in
     let n = one .before .before in
     rw (← n .before .get .ensures, ← n .next-tally .ensures, choose-yes _ _ _ (c .before .before .before .before .if1 .taken))
-    (wrote-next (λ r. fireOne r (one .before .before .before .before .before .before .args .e) 0) (one .set .ensures) (c .before .before .fire-one .ensures))
+    (wrote-next (λ r. fireOne r (one .before .before .before .before .before .before .args .e) 0) (one .set .ensures)
+    (c .before .before .fire-one .ensures))
 
 same-length-2 : tie.Need-same-length-2
 same-length-2 c = search needs

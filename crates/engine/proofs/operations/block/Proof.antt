@@ -17,13 +17,18 @@ same-length c = search needs
 returns : tie.Need-returns
 returns c =
     let a = c .before .before .before .before .args in
-    played-refused (a .s .now) _ (blockChecks (read (a .s .now)) (a .caller) (a .hold)) _ _ (c .before .block-refusal .ensures) (c .if1 .taken)
+    played-refused (a .s .now) _ (blockChecks (read (a .s .now)) (a .caller) (a .hold)) _ _ (c .before .block-refusal .ensures)
+    (c .if1 .taken)
 
-run-block-requires : tie.Need-run-block-requires
-run-block-requires c κs =
+block-requires : tie.Need-block-requires
+block-requires c κs =
     let a = c .before .before .before .before .before .args in
-    let e = sym (c .before .before .block-refusal .ensures) ∙ c .before .if1 .left in
-    (c .before .before .before .before .before .pre .0, c .before .before .before .before .before .pre .1, all-met (blockChecks (read (a .s .now)) (a .caller) (a .hold)) tt e)
+    let e = sym (c .before .before .block-refusal .ensures) ∙ c .before .if1 .left in (
+      c .before .before .before .before .before .pre .0,
+      c .before .before .before .before .before .pre .1,
+      all-met
+          (blockChecks (read (a .s .now)) (a .caller) (a .hold)) tt e,
+    )
 
 same-length-2 : tie.Need-same-length-2
 same-length-2 c = search needs
@@ -31,8 +36,10 @@ same-length-2 c = search needs
 returns-2 : tie.Need-returns-2
 returns-2 c =
     let a = c .before .before .before .before .before .before .before .before .args in
-    let e = sym (c .before .before .before .before .before .block-refusal .ensures) ∙ c .before .before .before .before .if1 .left in
-    played-accepted (a .s .now) _ _ (blockChecks (read (a .s .now)) (a .caller) (a .hold)) _ _ e (c .before .before .run-block .ensures .answer) (c .before .before .run-block .ensures .wrote)
+    let e = sym (c .before .before .before .before .before .block-refusal .ensures)
+    ∙ c .before .before .before .before .if1 .left in
+    played-accepted (a .s .now) _ _ (blockChecks (read (a .s .now)) (a .caller) (a .hold)) _ _ e
+    (c .before .before .block .ensures .answer) (c .before .before .block .ensures .wrote)
 
 pub block-spec : {M : Type 1} → statement M
-block-spec = tie.close (tie.spec block-refusal-requires same-length returns run-block-requires same-length-2 returns-2)
+block-spec = tie.close (tie.spec block-refusal-requires same-length returns block-requires same-length-2 returns-2)

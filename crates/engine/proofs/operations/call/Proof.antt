@@ -1,9 +1,15 @@
+-- `operations::call` meets its contract: each arm is the operation of its code, and what is left is code 8.
+use Prim.Native.Nat.{ℕ, _≤_, _<_}
 use mathlib.Core.Path.{_≡_}
+use native.Mathlib.Omega.{arith}
 use borrow.Author.Needs.{needs}
 use Rattle.rules.specs.Step.{rules}
-use Rattle.engine.specs.Played.{last-call}
 use Rattle.engine.proofs.operations.call.Statement.{statement}
 use Rattle.engine.proofs.operations.call.Tie as tie
+
+-- what the match leaves
+last-call : (n : ℕ) → 5 ≤ n → n < 9 → (n ≡ 5 → ⊥) → (n ≡ 6 → ⊥) → (n ≡ 7 → ⊥) → n ≡ 8
+last-call n l h a b c = omega arith
 
 array-read-dependence : tie.Need-array-read-dependence
 array-read-dependence c = search needs
@@ -87,7 +93,8 @@ returns-4 : tie.Need-returns-4
 unfolding rules
 returns-4 c =
     let r = c .before .before .before .before .match .rest in
-    let e : c .before .before .before .before .before .before .args .code ≡ 8 = last-call _ (c .before .before .before .before .before .before .pre .2) (c .before .before .before .before .before .before .pre .3) (r .0 .0 .1) (r .0 .1) (r .1) in
+    let s = c .before .before .before .before .before .before in
+    let e : s .args .code ≡ 8 = last-call _ (s .pre .2) (s .pre .3) (r .0 .0 .1) (r .0 .1) (r .1) in
     rw e (c .before .before .destroy .ensures)
 
 pub call-spec : {M : Type 1} → statement M

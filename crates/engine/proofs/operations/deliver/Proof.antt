@@ -17,13 +17,18 @@ same-length c = search needs
 returns : tie.Need-returns
 returns c =
     let a = c .before .before .before .before .args in
-    played-refused (a .s .now) _ (deliverChecks (read (a .s .now)) (a .l)) _ _ (c .before .deliver-refusal .ensures) (c .if1 .taken)
+    played-refused (a .s .now) _ (deliverChecks (read (a .s .now)) (a .l)) _ _ (c .before .deliver-refusal .ensures)
+    (c .if1 .taken)
 
-run-deliver-requires : tie.Need-run-deliver-requires
-run-deliver-requires c κs =
+deliver-requires : tie.Need-deliver-requires
+deliver-requires c κs =
     let a = c .before .before .before .before .before .args in
-    let e = sym (c .before .before .deliver-refusal .ensures) ∙ c .before .if1 .left in
-    (c .before .before .before .before .before .pre .0, c .before .before .before .before .before .pre .1, all-met (deliverChecks (read (a .s .now)) (a .l)) tt e)
+    let e = sym (c .before .before .deliver-refusal .ensures) ∙ c .before .if1 .left in (
+      c .before .before .before .before .before .pre .0,
+      c .before .before .before .before .before .pre .1,
+      all-met
+          (deliverChecks (read (a .s .now)) (a .l)) tt e,
+    )
 
 same-length-2 : tie.Need-same-length-2
 same-length-2 c = search needs
@@ -31,8 +36,10 @@ same-length-2 c = search needs
 returns-2 : tie.Need-returns-2
 returns-2 c =
     let a = c .before .before .before .before .before .before .before .before .args in
-    let e = sym (c .before .before .before .before .before .deliver-refusal .ensures) ∙ c .before .before .before .before .if1 .left in
-    played-accepted (a .s .now) _ _ (deliverChecks (read (a .s .now)) (a .l)) _ _ e refl (c .before .before .run-deliver .ensures)
+    let e = sym (c .before .before .before .before .before .deliver-refusal .ensures)
+    ∙ c .before .before .before .before .if1 .left in
+    played-accepted (a .s .now) _ _ (deliverChecks (read (a .s .now)) (a .l)) _ _ e refl
+    (c .before .before .deliver .ensures)
 
 pub deliver-spec : {M : Type 1} → statement M
-deliver-spec = tie.close (tie.spec deliver-refusal-requires same-length returns run-deliver-requires same-length-2 returns-2)
+deliver-spec = tie.close (tie.spec deliver-refusal-requires same-length returns deliver-requires same-length-2 returns-2)

@@ -4,7 +4,7 @@ use borrow.Author.Needs.{needs}
 use Rattle.session.specs.Table.{read}
 use Rattle.rules.specs.Checks.{dependenceChecks}
 use Rattle.laws.specs.Met.{all-met}
-use Rattle.effects.specs.Operations.{linkMade}
+use Rattle.effects.specs.Made.{linkMade}
 use Rattle.engine.specs.Played.{played-refused, played-accepted}
 use Rattle.engine.proofs.operations.dependence.Statement.{statement}
 use Rattle.engine.proofs.operations.dependence.Tie as tie
@@ -18,13 +18,18 @@ same-length c = search needs
 returns : tie.Need-returns
 returns c =
     let a = c .before .before .before .before .args in
-    played-refused (a .s .now) _ (dependenceChecks (read (a .s .now)) (a .caller) (a .source) (a .d) (a .j) (a .mode)) _ _ (c .before .dependence-refusal .ensures) (c .if1 .taken)
+    played-refused (a .s .now) _ (dependenceChecks (read (a .s .now)) (a .caller) (a .source) (a .d) (a .j) (a .mode)) _ _
+    (c .before .dependence-refusal .ensures) (c .if1 .taken)
 
-run-dependence-requires : tie.Need-run-dependence-requires
-run-dependence-requires c κs =
+dependence-requires : tie.Need-dependence-requires
+dependence-requires c κs =
     let a = c .before .before .before .before .before .args in
-    let e = sym (c .before .before .dependence-refusal .ensures) ∙ c .before .if1 .left in
-    (c .before .before .before .before .before .pre .0, c .before .before .before .before .before .pre .1, all-met (dependenceChecks (read (a .s .now)) (a .caller) (a .source) (a .d) (a .j) (a .mode)) tt e)
+    let e = sym (c .before .before .dependence-refusal .ensures) ∙ c .before .if1 .left in (
+      c .before .before .before .before .before .pre .0,
+      c .before .before .before .before .before .pre .1,
+      all-met
+          (dependenceChecks (read (a .s .now)) (a .caller) (a .source) (a .d) (a .j) (a .mode)) tt e,
+    )
 
 same-length-2 : tie.Need-same-length-2
 same-length-2 c = search needs
@@ -33,8 +38,10 @@ returns-2 : tie.Need-returns-2
 unfolding linkMade
 returns-2 c =
     let a = c .before .before .before .before .before .before .before .before .args in
-    let e = sym (c .before .before .before .before .before .dependence-refusal .ensures) ∙ c .before .before .before .before .if1 .left in
-    played-accepted (a .s .now) _ _ (dependenceChecks (read (a .s .now)) (a .caller) (a .source) (a .d) (a .j) (a .mode)) _ _ e (c .before .before .run-dependence .ensures .answer) (c .before .before .run-dependence .ensures .wrote)
+    let e = sym (c .before .before .before .before .before .dependence-refusal .ensures)
+    ∙ c .before .before .before .before .if1 .left in
+    played-accepted (a .s .now) _ _ (dependenceChecks (read (a .s .now)) (a .caller) (a .source) (a .d) (a .j) (a .mode)) _ _ e
+    (c .before .before .dependence .ensures .answer) (c .before .before .dependence .ensures .wrote)
 
 pub dependence-spec : {M : Type 1} → statement M
-dependence-spec = tie.close (tie.spec dependence-refusal-requires same-length returns run-dependence-requires same-length-2 returns-2)
+dependence-spec = tie.close (tie.spec dependence-refusal-requires same-length returns dependence-requires same-length-2 returns-2)

@@ -17,13 +17,18 @@ same-length c = search needs
 returns : tie.Need-returns
 returns c =
     let a = c .before .before .before .before .args in
-    played-refused (a .s .now) _ (destroyChecks (read (a .s .now)) (a .caller) (a .h)) _ _ (c .before .destroy-refusal .ensures) (c .if1 .taken)
+    played-refused (a .s .now) _ (destroyChecks (read (a .s .now)) (a .caller) (a .h)) _ _ (c .before .destroy-refusal .ensures)
+    (c .if1 .taken)
 
 destroy-requires : tie.Need-destroy-requires
 destroy-requires c κs =
     let a = c .before .before .before .before .before .args in
-    let e = sym (c .before .before .destroy-refusal .ensures) ∙ c .before .if1 .left in
-    (c .before .before .before .before .before .pre .0, c .before .before .before .before .before .pre .1, all-met (destroyChecks (read (a .s .now)) (a .caller) (a .h)) tt e)
+    let e = sym (c .before .before .destroy-refusal .ensures) ∙ c .before .if1 .left in (
+      c .before .before .before .before .before .pre .0,
+      c .before .before .before .before .before .pre .1,
+      all-met
+          (destroyChecks (read (a .s .now)) (a .caller) (a .h)) tt e,
+    )
 
 same-length-2 : tie.Need-same-length-2
 same-length-2 c = search needs
@@ -31,8 +36,10 @@ same-length-2 c = search needs
 returns-2 : tie.Need-returns-2
 returns-2 c =
     let a = c .before .before .before .before .before .before .before .before .args in
-    let e = sym (c .before .before .before .before .before .destroy-refusal .ensures) ∙ c .before .before .before .before .if1 .left in
-    played-accepted (a .s .now) _ _ (destroyChecks (read (a .s .now)) (a .caller) (a .h)) _ _ e refl (c .before .before .destroy .ensures)
+    let e = sym (c .before .before .before .before .before .destroy-refusal .ensures)
+    ∙ c .before .before .before .before .if1 .left in
+    played-accepted (a .s .now) _ _ (destroyChecks (read (a .s .now)) (a .caller) (a .h)) _ _ e refl
+    (c .before .before .destroy .ensures)
 
 pub destroy-spec : {M : Type 1} → statement M
 destroy-spec = tie.close (tie.spec destroy-refusal-requires same-length returns destroy-requires same-length-2 returns-2)

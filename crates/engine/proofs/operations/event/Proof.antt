@@ -17,13 +17,18 @@ same-length c = search needs
 returns : tie.Need-returns
 returns c =
     let a = c .before .before .before .before .args in
-    played-refused (a .s .now) _ (eventChecks (read (a .s .now)) (a .caller) (a .ty)) _ _ (c .before .event-refusal .ensures) (c .if1 .taken)
+    played-refused (a .s .now) _ (eventChecks (read (a .s .now)) (a .caller) (a .ty)) _ _ (c .before .event-refusal .ensures)
+    (c .if1 .taken)
 
-run-event-requires : tie.Need-run-event-requires
-run-event-requires c κs =
+event-requires : tie.Need-event-requires
+event-requires c κs =
     let a = c .before .before .before .before .before .args in
-    let e = sym (c .before .before .event-refusal .ensures) ∙ c .before .if1 .left in
-    (c .before .before .before .before .before .pre .0, c .before .before .before .before .before .pre .1, all-met (eventChecks (read (a .s .now)) (a .caller) (a .ty)) tt e)
+    let e = sym (c .before .before .event-refusal .ensures) ∙ c .before .if1 .left in (
+      c .before .before .before .before .before .pre .0,
+      c .before .before .before .before .before .pre .1,
+      all-met
+          (eventChecks (read (a .s .now)) (a .caller) (a .ty)) tt e,
+    )
 
 same-length-2 : tie.Need-same-length-2
 same-length-2 c = search needs
@@ -31,8 +36,10 @@ same-length-2 c = search needs
 returns-2 : tie.Need-returns-2
 returns-2 c =
     let a = c .before .before .before .before .before .before .before .before .args in
-    let e = sym (c .before .before .before .before .before .event-refusal .ensures) ∙ c .before .before .before .before .if1 .left in
-    played-accepted (a .s .now) _ _ (eventChecks (read (a .s .now)) (a .caller) (a .ty)) _ _ e (c .before .before .run-event .ensures .answer) (c .before .before .run-event .ensures .wrote)
+    let e = sym (c .before .before .before .before .before .event-refusal .ensures)
+    ∙ c .before .before .before .before .if1 .left in
+    played-accepted (a .s .now) _ _ (eventChecks (read (a .s .now)) (a .caller) (a .ty)) _ _ e
+    (c .before .before .event .ensures .answer) (c .before .before .event .ensures .wrote)
 
 pub event-spec : {M : Type 1} → statement M
-event-spec = tie.close (tie.spec event-refusal-requires same-length returns run-event-requires same-length-2 returns-2)
+event-spec = tie.close (tie.spec event-refusal-requires same-length returns event-requires same-length-2 returns-2)

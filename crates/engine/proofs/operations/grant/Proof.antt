@@ -22,8 +22,12 @@ returns c =
 grant-requires : tie.Need-grant-requires
 grant-requires c κs =
     let a = c .before .before .before .before .before .args in
-    let e = sym (c .before .before .grant-refusal .ensures) ∙ c .before .if1 .left in
-    (c .before .before .before .before .before .pre .0, c .before .before .before .before .before .pre .1, all-met (grantChecks (read (a .s .now)) (a .t)) tt e)
+    let e = sym (c .before .before .grant-refusal .ensures) ∙ c .before .if1 .left in (
+      c .before .before .before .before .before .pre .0,
+      c .before .before .before .before .before .pre .1,
+      all-met
+          (grantChecks (read (a .s .now)) (a .t)) tt e,
+    )
 
 same-length-2 : tie.Need-same-length-2
 same-length-2 c = search needs
@@ -31,8 +35,10 @@ same-length-2 c = search needs
 returns-2 : tie.Need-returns-2
 returns-2 c =
     let a = c .before .before .before .before .before .before .before .before .args in
-    let e = sym (c .before .before .before .before .before .grant-refusal .ensures) ∙ c .before .before .before .before .if1 .left in
-    played-accepted (a .s .now) _ _ (grantChecks (read (a .s .now)) (a .t)) _ _ e refl (c .before .before .grant .ensures)
+    let e = sym (c .before .before .before .before .before .grant-refusal .ensures)
+    ∙ c .before .before .before .before .if1 .left in
+    played-accepted (a .s .now) _ _ (grantChecks (read (a .s .now)) (a .t)) _ _ e refl
+    (c .before .before .grant .ensures)
 
 pub grant-spec : {M : Type 1} → statement M
 grant-spec = tie.close (tie.spec grant-refusal-requires same-length returns grant-requires same-length-2 returns-2)

@@ -1,8 +1,16 @@
+-- `operations::make` meets its contract: each arm is the operation of its code, and what is left is code 0.
+use Prim.Native.Nat.{ℕ, _<_}
+use mathlib.Core.Path.{_≡_}
+use native.Mathlib.Omega.{arith}
 use borrow.Author.Needs.{needs}
 use Rattle.rules.specs.Step.{rules}
-use Rattle.engine.specs.Played.{played-none, no-maker}
+use Rattle.engine.specs.Played.{played-none}
 use Rattle.engine.proofs.operations.make.Statement.{statement}
 use Rattle.engine.proofs.operations.make.Tie as tie
+
+-- what the match leaves
+no-maker : (n : ℕ) → n < 5 → (n ≡ 1 → ⊥) → (n ≡ 2 → ⊥) → (n ≡ 3 → ⊥) → (n ≡ 4 → ⊥) → n ≡ 0
+no-maker n h a b c d = omega arith
 
 array-read-template : tie.Need-array-read-template
 array-read-template c = search needs
@@ -85,7 +93,8 @@ returns-5 : tie.Need-returns-5
 returns-5 c =
     let a = c .before .before .args in
     let r = c .match .rest in
-    played-none (a .s .now) (a .code) (a .t3) (no-maker (a .code) (c .before .before .pre .2) (r .0 .0 .0 .1) (r .0 .0 .1) (r .0 .1) (r .1))
+    played-none (a .s .now) (a .code) (a .t3)
+    (no-maker (a .code) (c .before .before .pre .2) (r .0 .0 .0 .1) (r .0 .0 .1) (r .0 .1) (r .1))
 
 pub make-spec : {M : Type 1} → statement M
 make-spec =

@@ -1,8 +1,16 @@
+-- `operations::move_on` meets its contract: each arm is the operation of its code, and what is left is past the last code.
+use Prim.Native.Nat.{ℕ, _≤_, _<_}
+use mathlib.Core.Path.{_≡_}
+use native.Mathlib.Omega.{arith}
 use borrow.Author.Needs.{needs}
-use Rattle.rules.specs.Step.{rules}
-use Rattle.engine.specs.Played.{played-unknown, no-move}
+use Rattle.rules.specs.Step.{rules, lastCode}
+use Rattle.engine.specs.Played.{played-unknown}
 use Rattle.engine.proofs.operations.move_on.Statement.{statement}
 use Rattle.engine.proofs.operations.move_on.Tie as tie
+
+-- what the match leaves
+no-move : (n : ℕ) → 9 ≤ n → (n ≡ 9 → ⊥) → (n ≡ 10 → ⊥) → (n ≡ 11 → ⊥) → (n ≡ 12 → ⊥) → lastCode < n
+no-move n l a b c d = omega arith
 
 array-read-deliver : tie.Need-array-read-deliver
 array-read-deliver c = search needs
@@ -16,20 +24,20 @@ array-read-grant c = search needs
 grant-requires : tie.Need-grant-requires
 grant-requires c κs = search needs
 
-array-read-start-task : tie.Need-array-read-start-task
-array-read-start-task c = search needs
+array-read-start : tie.Need-array-read-start
+array-read-start c = search needs
 
-start-task-requires : tie.Need-start-task-requires
-start-task-requires c κs = search needs
+start-requires : tie.Need-start-requires
+start-requires c κs = search needs
 
-array-read-end-task : tie.Need-array-read-end-task
-array-read-end-task c = search needs
+array-read-end : tie.Need-array-read-end
+array-read-end c = search needs
 
-array-read-end-task-2 : tie.Need-array-read-end-task-2
-array-read-end-task-2 c = search needs
+array-read-end-2 : tie.Need-array-read-end-2
+array-read-end-2 c = search needs
 
-end-task-requires : tie.Need-end-task-requires
-end-task-requires c κs = search needs
+end-requires : tie.Need-end-requires
+end-requires c κs = search needs
 
 same-length : tie.Need-same-length
 same-length c = search needs
@@ -53,7 +61,7 @@ same-length-3 c = search needs
 returns-3 : tie.Need-returns-3
 unfolding rules
 returns-3 c =
-    rw (c .before .before .before .before .match .keys3) (c .before .before .start-task .ensures)
+    rw (c .before .before .before .before .match .keys3) (c .before .before .start .ensures)
 
 same-length-4 : tie.Need-same-length-4
 same-length-4 c = search needs
@@ -61,13 +69,14 @@ same-length-4 c = search needs
 returns-4 : tie.Need-returns-4
 unfolding rules
 returns-4 c =
-    rw (c .before .before .before .before .match .keys4) (c .before .before .end-task .ensures)
+    rw (c .before .before .before .before .match .keys4) (c .before .before .end .ensures)
 
 returns-5 : tie.Need-returns-5
 returns-5 c =
     let a = c .before .before .args in
     let r = c .match .rest in
-    played-unknown (a .s .now) (a .code) (a .t3) (no-move (a .code) (c .before .before .pre .2) (r .0 .0 .0 .1) (r .0 .0 .1) (r .0 .1) (r .1))
+    played-unknown (a .s .now) (a .code) (a .t3)
+    (no-move (a .code) (c .before .before .pre .2) (r .0 .0 .0 .1) (r .0 .0 .1) (r .0 .1) (r .1))
 
 pub move-on-spec : {M : Type 1} → statement M
 move-on-spec =
@@ -77,11 +86,11 @@ move-on-spec =
     deliver-requires
     array-read-grant
     grant-requires
-    array-read-start-task
-    start-task-requires
-    array-read-end-task
-    array-read-end-task-2
-    end-task-requires
+    array-read-start
+    start-requires
+    array-read-end
+    array-read-end-2
+    end-requires
     same-length
     returns
     same-length-2

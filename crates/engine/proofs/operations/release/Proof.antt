@@ -17,13 +17,18 @@ same-length c = search needs
 returns : tie.Need-returns
 returns c =
     let a = c .before .before .before .before .args in
-    played-refused (a .s .now) _ (releaseChecks (read (a .s .now)) (a .caller) (a .b)) _ _ (c .before .release-refusal .ensures) (c .if1 .taken)
+    played-refused (a .s .now) _ (releaseChecks (read (a .s .now)) (a .caller) (a .b)) _ _ (c .before .release-refusal .ensures)
+    (c .if1 .taken)
 
 release-requires : tie.Need-release-requires
 release-requires c κs =
     let a = c .before .before .before .before .before .args in
-    let e = sym (c .before .before .release-refusal .ensures) ∙ c .before .if1 .left in
-    (c .before .before .before .before .before .pre .0, c .before .before .before .before .before .pre .1, all-met (releaseChecks (read (a .s .now)) (a .caller) (a .b)) tt e)
+    let e = sym (c .before .before .release-refusal .ensures) ∙ c .before .if1 .left in (
+      c .before .before .before .before .before .pre .0,
+      c .before .before .before .before .before .pre .1,
+      all-met
+          (releaseChecks (read (a .s .now)) (a .caller) (a .b)) tt e,
+    )
 
 same-length-2 : tie.Need-same-length-2
 same-length-2 c = search needs
@@ -31,8 +36,10 @@ same-length-2 c = search needs
 returns-2 : tie.Need-returns-2
 returns-2 c =
     let a = c .before .before .before .before .before .before .before .before .args in
-    let e = sym (c .before .before .before .before .before .release-refusal .ensures) ∙ c .before .before .before .before .if1 .left in
-    played-accepted (a .s .now) _ _ (releaseChecks (read (a .s .now)) (a .caller) (a .b)) _ _ e refl (c .before .before .release .ensures)
+    let e = sym (c .before .before .before .before .before .release-refusal .ensures)
+    ∙ c .before .before .before .before .if1 .left in
+    played-accepted (a .s .now) _ _ (releaseChecks (read (a .s .now)) (a .caller) (a .b)) _ _ e refl
+    (c .before .before .release .ensures)
 
 pub release-spec : {M : Type 1} → statement M
 release-spec = tie.close (tie.spec release-refusal-requires same-length returns release-requires same-length-2 returns-2)

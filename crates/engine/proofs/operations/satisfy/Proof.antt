@@ -17,13 +17,18 @@ same-length c = search needs
 returns : tie.Need-returns
 returns c =
     let a = c .before .before .before .before .args in
-    played-refused (a .s .now) _ (satisfyChecks (read (a .s .now)) (a .caller) (a .e) (a .b) (a .j)) _ _ (c .before .satisfy-refusal .ensures) (c .if1 .taken)
+    played-refused (a .s .now) _ (satisfyChecks (read (a .s .now)) (a .caller) (a .e) (a .b) (a .j)) _ _
+    (c .before .satisfy-refusal .ensures) (c .if1 .taken)
 
-run-satisfy-requires : tie.Need-run-satisfy-requires
-run-satisfy-requires c κs =
+satisfy-requires : tie.Need-satisfy-requires
+satisfy-requires c κs =
     let a = c .before .before .before .before .before .args in
-    let e = sym (c .before .before .satisfy-refusal .ensures) ∙ c .before .if1 .left in
-    (c .before .before .before .before .before .pre .0, c .before .before .before .before .before .pre .1, all-met (satisfyChecks (read (a .s .now)) (a .caller) (a .e) (a .b) (a .j)) tt e)
+    let e = sym (c .before .before .satisfy-refusal .ensures) ∙ c .before .if1 .left in (
+      c .before .before .before .before .before .pre .0,
+      c .before .before .before .before .before .pre .1,
+      all-met
+          (satisfyChecks (read (a .s .now)) (a .caller) (a .e) (a .b) (a .j)) tt e,
+    )
 
 same-length-2 : tie.Need-same-length-2
 same-length-2 c = search needs
@@ -31,8 +36,10 @@ same-length-2 c = search needs
 returns-2 : tie.Need-returns-2
 returns-2 c =
     let a = c .before .before .before .before .before .before .before .before .args in
-    let e = sym (c .before .before .before .before .before .satisfy-refusal .ensures) ∙ c .before .before .before .before .if1 .left in
-    played-accepted (a .s .now) _ _ (satisfyChecks (read (a .s .now)) (a .caller) (a .e) (a .b) (a .j)) _ _ e refl (c .before .before .run-satisfy .ensures)
+    let e = sym (c .before .before .before .before .before .satisfy-refusal .ensures)
+    ∙ c .before .before .before .before .if1 .left in
+    played-accepted (a .s .now) _ _ (satisfyChecks (read (a .s .now)) (a .caller) (a .e) (a .b) (a .j)) _ _ e refl
+    (c .before .before .satisfy .ensures)
 
 pub satisfy-spec : {M : Type 1} → statement M
-satisfy-spec = tie.close (tie.spec satisfy-refusal-requires same-length returns run-satisfy-requires same-length-2 returns-2)
+satisfy-spec = tie.close (tie.spec satisfy-refusal-requires same-length returns satisfy-requires same-length-2 returns-2)

@@ -17,13 +17,18 @@ same-length c = search needs
 returns : tie.Need-returns
 returns c =
     let a = c .before .before .before .before .args in
-    played-refused (a .s .now) _ (taskChecks (read (a .s .now)) (a .caller) (a .tm) (a .n) (a .finish) (a .out)) _ _ (c .before .task-refusal .ensures) (c .if1 .taken)
+    played-refused (a .s .now) _ (taskChecks (read (a .s .now)) (a .caller) (a .tm) (a .n) (a .finish) (a .out)) _ _
+    (c .before .task-refusal .ensures) (c .if1 .taken)
 
-run-task-requires : tie.Need-run-task-requires
-run-task-requires c κs =
+task-requires : tie.Need-task-requires
+task-requires c κs =
     let a = c .before .before .before .before .before .args in
-    let e = sym (c .before .before .task-refusal .ensures) ∙ c .before .if1 .left in
-    (c .before .before .before .before .before .pre .0, c .before .before .before .before .before .pre .1, all-met (taskChecks (read (a .s .now)) (a .caller) (a .tm) (a .n) (a .finish) (a .out)) tt e)
+    let e = sym (c .before .before .task-refusal .ensures) ∙ c .before .if1 .left in (
+      c .before .before .before .before .before .pre .0,
+      c .before .before .before .before .before .pre .1,
+      all-met
+          (taskChecks (read (a .s .now)) (a .caller) (a .tm) (a .n) (a .finish) (a .out)) tt e,
+    )
 
 same-length-2 : tie.Need-same-length-2
 same-length-2 c = search needs
@@ -31,8 +36,10 @@ same-length-2 c = search needs
 returns-2 : tie.Need-returns-2
 returns-2 c =
     let a = c .before .before .before .before .before .before .before .before .args in
-    let e = sym (c .before .before .before .before .before .task-refusal .ensures) ∙ c .before .before .before .before .if1 .left in
-    played-accepted (a .s .now) _ _ (taskChecks (read (a .s .now)) (a .caller) (a .tm) (a .n) (a .finish) (a .out)) _ _ e (c .before .before .run-task .ensures .answer) (c .before .before .run-task .ensures .wrote)
+    let e = sym (c .before .before .before .before .before .task-refusal .ensures)
+    ∙ c .before .before .before .before .if1 .left in
+    played-accepted (a .s .now) _ _ (taskChecks (read (a .s .now)) (a .caller) (a .tm) (a .n) (a .finish) (a .out)) _ _ e
+    (c .before .before .task .ensures .answer) (c .before .before .task .ensures .wrote)
 
 pub task-spec : {M : Type 1} → statement M
-task-spec = tie.close (tie.spec task-refusal-requires same-length returns run-task-requires same-length-2 returns-2)
+task-spec = tie.close (tie.spec task-refusal-requires same-length returns task-requires same-length-2 returns-2)

@@ -17,13 +17,18 @@ same-length c = search needs
 returns : tie.Need-returns
 returns c =
     let a = c .before .before .before .before .args in
-    played-refused (a .s .now) _ (templateChecks (read (a .s .now)) (a .caller) (a .n)) _ _ (c .before .template-refusal .ensures) (c .if1 .taken)
+    played-refused (a .s .now) _ (templateChecks (read (a .s .now)) (a .caller) (a .n)) _ _
+    (c .before .template-refusal .ensures) (c .if1 .taken)
 
-run-template-requires : tie.Need-run-template-requires
-run-template-requires c κs =
+template-requires : tie.Need-template-requires
+template-requires c κs =
     let a = c .before .before .before .before .before .args in
-    let e = sym (c .before .before .template-refusal .ensures) ∙ c .before .if1 .left in
-    (c .before .before .before .before .before .pre .0, c .before .before .before .before .before .pre .1, all-met (templateChecks (read (a .s .now)) (a .caller) (a .n)) tt e)
+    let e = sym (c .before .before .template-refusal .ensures) ∙ c .before .if1 .left in (
+      c .before .before .before .before .before .pre .0,
+      c .before .before .before .before .before .pre .1,
+      all-met
+          (templateChecks (read (a .s .now)) (a .caller) (a .n)) tt e,
+    )
 
 same-length-2 : tie.Need-same-length-2
 same-length-2 c = search needs
@@ -31,8 +36,10 @@ same-length-2 c = search needs
 returns-2 : tie.Need-returns-2
 returns-2 c =
     let a = c .before .before .before .before .before .before .before .before .args in
-    let e = sym (c .before .before .before .before .before .template-refusal .ensures) ∙ c .before .before .before .before .if1 .left in
-    played-accepted (a .s .now) _ _ (templateChecks (read (a .s .now)) (a .caller) (a .n)) _ _ e (c .before .before .run-template .ensures .answer) (c .before .before .run-template .ensures .wrote)
+    let e = sym (c .before .before .before .before .before .template-refusal .ensures)
+    ∙ c .before .before .before .before .if1 .left in
+    played-accepted (a .s .now) _ _ (templateChecks (read (a .s .now)) (a .caller) (a .n)) _ _ e
+    (c .before .before .template .ensures .answer) (c .before .before .template .ensures .wrote)
 
 pub template-spec : {M : Type 1} → statement M
-template-spec = tie.close (tie.spec template-refusal-requires same-length returns run-template-requires same-length-2 returns-2)
+template-spec = tie.close (tie.spec template-refusal-requires same-length returns template-requires same-length-2 returns-2)

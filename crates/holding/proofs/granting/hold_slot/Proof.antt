@@ -1,5 +1,7 @@
+-- `holding::granting::hold_slot` meets its contract: of a slot with a block the mark is put (`grantRow-own`), and of an empty one
+-- the row is as it was (`grantRow-empty`).
 use Rattle.session.specs.TableLaws.{wrote-none}
-use Rattle.holding.specs.Granting.{grantRow-own, grantRow-empty}
+use Rattle.holding.specs.GrantedSlots.{grantRow-own, grantRow-empty}
 use borrow.Author.Needs.{needs}
 use Rattle.holding.proofs.granting.hold_slot.Statement.{statement}
 use Rattle.holding.proofs.granting.hold_slot.Tie as tie
@@ -23,7 +25,8 @@ returns : tie.Need-returns
 returns c =
     let f = c .before .before in
     let g = f .before .before in
-    rw (grantRow-own _ _ _ (g .before .before .before .before .pre .2) (rw (g .before .get .ensures) at (g .if1 .taken))) (f .set .ensures)
+    rw (grantRow-own _ _ _ (g .before .before .before .before .pre .2) (rw (g .before .get .ensures) at (g .if1 .taken)))
+    (f .set .ensures)
 
 same-length-2 : tie.Need-same-length-2
 same-length-2 c = search needs

@@ -1,3 +1,5 @@
+-- `holding::letting::bury` meets its contract: a doomed block that nobody holds is destroyed (`bury-yes`); one held, or not
+-- doomed, is as it was (`bury-no`).
 use mathlib.Core.Path.{sym, _∙_}
 use Rattle.session.specs.TableLaws.{wrote-none}
 use Rattle.rules.specs.FormulaLaws.{passed, failed}
@@ -29,7 +31,8 @@ returns-2 : tie.Need-returns-2
 returns-2 c =
     let f = c .before .before in
     let h = f .before .before .before in
-    rw (bury-yes _ _ (sym (h .before .before .before .get .ensures) ∙ h .before .before .if1 .taken) (failed _ (sym (h .is-held .ensures) ∙ f .before .before .if2 .left))) (f .set .ensures)
+    rw (bury-yes _ _ (sym (h .before .before .before .get .ensures) ∙ h .before .before .if1 .taken)
+    (failed _ (sym (h .is-held .ensures) ∙ f .before .before .if2 .left))) (f .set .ensures)
 
 same-length-3 : tie.Need-same-length-3
 same-length-3 c = search needs

@@ -1,19 +1,23 @@
+-- `holding::letting::drop_all_made` meets its contract: the blocks before b are swept, one more each turn (`row-next`); past the
+-- count of objects none is held (`made-end`).
 use Prim.Native.Nat.{_≤_, _+_, _-_}
 use mathlib.Core.Path.{_≡_}
 use native.Mathlib.Omega.{arith}
 use lib.ListN.{length}
 use borrow.Author.Needs.{needs}
+use Rattle.session.specs.Names.{mostObjects}
 use Rattle.session.specs.Table.{Wrote, read, sweep, words}
 use Rattle.session.specs.TableLaws.{sweep-zero, wrote-none, wrote-then}
 use Rattle.session.specs.declared.Field.the-variants.{Objects, BlockHeld}
-use Rattle.holding.specs.Rows.{rows, row-next}
+use Rattle.holding.specs.SweepRows.{rows, row-next}
 use Rattle.holding.specs.Letting.{Unheld, madeRow, made-end}
 use Rattle.holding.proofs.letting.drop_all_made.Statement.{statement}
 use Rattle.holding.proofs.letting.drop_all_made.Tie as tie
 
 abbrev Inv-loop : tie.InvT-loop
 Inv-loop s₀ t n b₀ s b =
-    (b ≤ n + 1) × (n ≡ read s₀ Objects 0) × (n ≤ 512) × (words ≤ length s₀) × Unheld (read s₀) × Wrote s₀ s (sweep (read s₀) BlockHeld b (rows (madeRow t) (read s₀)))
+    (b ≤ n + 1) × (n ≡ read s₀ Objects 0) × (n ≤ mostObjects) × (words ≤ length s₀) × Unheld (read s₀)
+    × Wrote s₀ s (sweep (read s₀) BlockHeld b (rows (madeRow t) (read s₀)))
 
 abbrev μ-loop : tie.MeasureT-loop
 μ-loop s₀ t n b₀ s b = n + 1 - b

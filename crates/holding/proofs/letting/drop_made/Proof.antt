@@ -1,3 +1,5 @@
+-- `holding::letting::drop_made` meets its contract: of a block that t made the hold is put to 0 (`made-yes`), and of any other
+-- the row is as it was (`made-no`).
 use mathlib.Core.Path.{sym, _∙_}
 use Rattle.session.specs.TableLaws.{wrote-none}
 use Rattle.holding.specs.Letting.{made-yes, made-no}

@@ -1,8 +1,10 @@
+-- `holding::letting::drop_slot` meets its contract: the mark put is what `mark_after` gives of the two words read, which is
+-- `markRow` since the slot is one of t's (`markRow-own`).
 use mathlib.Core.Path.{_≡_, _∙_}
 use denote.Ref.{now}
 use Prim.Native.Nat.{_+_, _*_}
 use Rattle.session.specs.Table.{read}
-use Rattle.holding.specs.Rows.{row}
+use Rattle.holding.specs.SweepRows.{row}
 use Rattle.holding.specs.Letting.{markRow, markRow-own}
 use borrow.Author.Needs.{needs}
 use Rattle.holding.proofs.letting.drop_slot.Statement.{statement}
@@ -35,7 +37,8 @@ returns c =
     let x = f .before .before .before .before .before .before .before in
     let r = row (read (now (x .args .s))) (x .args .t * 16 + x .args .j) in
     let v : f .mark-after .result ≡ markRow (x .args .t) (x .args .b) (x .args .t * 16 + x .args .j) r =
-    (rw (f .before .before .before .before .get .ensures, f .before .before .get2 .ensures) at (f .mark-after .ensures)) ∙ markRow-own (x .args .t) (x .args .b) (x .args .j) r (x .pre .2) in
+    (rw (f .before .before .before .before .get .ensures, f .before .before .get2 .ensures) at (f .mark-after .ensures))
+    ∙ markRow-own (x .args .t) (x .args .b) (x .args .j) r (x .pre .2) in
     rw (← v) (c .before .before .set .ensures)
 
 pub drop-slot-spec : {M : Type 1} → statement M

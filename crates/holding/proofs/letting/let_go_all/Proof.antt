@@ -1,3 +1,5 @@
+-- `holding::letting::let_go_all` meets its contract: the three parts, one behind the other (`wrote-next`), are `letGo`
+-- (`letGo-all`); each leaves what the next requires (`after-slots`, `after-made`, `active-made`).
 use native.Mathlib.Omega.{arith}
 use denote.Ref.{now}
 use Rattle.session.specs.Table.{read}
@@ -27,8 +29,13 @@ bury-all-requires c κs =
     let x = l .before .before .before in
     let a = x .args in
     let w = wrote-next (λ r. madeLetGo r (a .t)) (l .drop-slots .ensures) (m .drop-all-made .ensures) in
-    let y = rw (← w .reading) at (after-made (read (now (a .s))) (a .t) 0 (x .pre .1) (x .pre .4)) in
-    (omega (arith, w .same-length, x .pre .0), y .0, y .1, rw (← w .reading) at (active-made (read (now (a .s))) (a .t) 0 (x .pre .5)))
+    let y = rw (← w .reading) at (after-made (read (now (a .s))) (a .t) 0 (x .pre .1) (x .pre .4)) in (
+      omega (arith, w .same-length, x .pre .0),
+      y .0,
+      y .1,
+      rw (← w .reading) at
+          (active-made (read (now (a .s))) (a .t) 0 (x .pre .5)),
+    )
 
 same-length : tie.Need-same-length
 same-length c = search needs
@@ -41,7 +48,8 @@ returns c =
     let x = l .before .before .before in
     let a = x .args in
     rw (letGo-all (read (now (a .s))) (a .t))
-    (wrote-next buryDoomed (wrote-next (λ r. madeLetGo r (a .t)) (l .drop-slots .ensures) (m .drop-all-made .ensures)) (y .bury-all .ensures))
+    (wrote-next buryDoomed (wrote-next (λ r. madeLetGo r (a .t)) (l .drop-slots .ensures) (m .drop-all-made .ensures))
+    (y .bury-all .ensures))
 
 pub let-go-all-spec : {M : Type 1} → statement M
 let-go-all-spec =

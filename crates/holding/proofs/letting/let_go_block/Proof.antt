@@ -1,10 +1,12 @@
+-- `holding::letting::let_go_block` meets its contract: the three parts, one behind the other (`wrote-next`), are `release`, since
+-- every doomed block is held (`letGo-one`); the first two leave what `bury` requires (`after-one`, `active-one`).
 use native.Mathlib.Omega.{arith}
 use denote.Ref.{now}
 use Rattle.session.specs.Table.{read, put}
 use Rattle.session.specs.declared.Field.the-variants.{BlockHeld, BlockState}
 use Rattle.rules.specs.Effects.{release}
 use Rattle.effects.specs.Puts.{wrote-next}
-use Rattle.holding.specs.Rows.{row}
+use Rattle.holding.specs.SweepRows.{row}
 use Rattle.holding.specs.Letting.{madeRow, buried, after-one, active-one, letGo-one}
 use borrow.Author.Needs.{needs}
 use Rattle.holding.proofs.letting.let_go_block.Statement.{statement}
@@ -22,8 +24,15 @@ bury-requires c κs =
     let l = m .before .before .before .before in
     let x = l .before .before .before in
     let a = x .args in
-    let w = wrote-next (λ r. put r BlockHeld (a .b) (madeRow (a .t) (a .b) (row r (a .b)))) (l .drop-slots .ensures) (m .drop-made .ensures) in
-    (omega (arith, w .same-length, x .pre .0), rw (← w .reading) at (after-one (read (now (a .s))) (a .t) (a .b) (x .pre .1)), x .pre .4, rw (← w .reading) at (active-one (read (now (a .s))) (a .t) (a .b) (x .pre .6)))
+    let w = wrote-next (λ r. put r BlockHeld (a .b) (madeRow (a .t) (a .b) (row r (a .b)))) (l .drop-slots .ensures)
+    (m .drop-made .ensures) in (
+      omega (arith, w .same-length, x .pre .0),
+      rw (← w .reading) at
+          (after-one (read (now (a .s))) (a .t) (a .b) (x .pre .1)),
+      x .pre .4,
+      rw (← w .reading) at
+          (active-one (read (now (a .s))) (a .t) (a .b) (x .pre .6)),
+    )
 
 same-length : tie.Need-same-length
 same-length c = search needs
@@ -38,7 +47,8 @@ returns c =
     let a = x .args in
     rw (← letGo-one (read (now (a .s))) (a .t) (a .b) (x .pre .3) (x .pre .5))
     (wrote-next (λ r. put r BlockState (a .b) (buried r (a .b)))
-    (wrote-next (λ r. put r BlockHeld (a .b) (madeRow (a .t) (a .b) (row r (a .b)))) (l .drop-slots .ensures) (m .drop-made .ensures))
+    (wrote-next (λ r. put r BlockHeld (a .b) (madeRow (a .t) (a .b) (row r (a .b)))) (l .drop-slots .ensures)
+    (m .drop-made .ensures))
     (y .bury .ensures))
 
 pub let-go-block-spec : {M : Type 1} → statement M

@@ -1,3 +1,5 @@
+-- `holding::letting::mark_after` meets its contract: of the four returns, two are where the mark is let go (`choose-yes`) and two
+-- where it is kept (`choose-no`).
 use mathlib.Core.Path.{sym}
 use mathlib.Core.Logic.{⊎-elim, inl, inr}
 use Rattle.rules.specs.FormulaLaws.{choose-yes, choose-no}

@@ -1,4 +1,4 @@
--- `number::reader::group_fits` meets its contract.
+-- `number::reader::group_fits` meets its contract: weight 0 (`fits-spoilt`), a value above the limit, or the quotient.
 use mathlib.Core.Path.{sym}
 use native.Mathlib.Omega.{arith}
 use borrow.Author.Needs.{needs}

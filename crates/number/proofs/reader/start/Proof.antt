@@ -1,4 +1,4 @@
--- `number::reader::start` meets its contract.
+-- `number::reader::start` meets its contract, by the definition of `start`.
 use mathlib.Core.Path.{refl}
 use Rattle.number.specs.Fed.{start}
 use Rattle.number.proofs.reader.start.Statement.{statement}

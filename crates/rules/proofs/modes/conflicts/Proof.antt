@@ -1,3 +1,4 @@
+-- `rules::modes::conflicts` meets its contract: each test of the code is that of the formula, in one step by `simp` with Bools.
 use Rattle.rules.specs.Bools.{test-not, test-both, test-either, test-eq}
 use Rattle.rules.proofs.modes.conflicts.Statement.{statement}
 use Rattle.rules.proofs.modes.conflicts.Tie as tie

@@ -1,4 +1,4 @@
--- `sheet::parts::last_part` meets its contract.
+-- `sheet::parts::last_part` meets its contract: the last line waits for room (`last-waits`) or is told (`last-told`).
 use Rattle.sheet.specs.PartLaws.{last-waits, last-told}
 use borrow.Author.Needs.{needs}
 use Rattle.sheet.proofs.parts.last_part.Statement.{statement}
@@ -12,16 +12,22 @@ same-length c = search needs
 
 returns : tie.Need-returns
 returns c =
-    let a = c .before .before .before .before .before .before .before .before .args in
-    last-waits (a .memory .now) (a .lines .now) _ (a .used) _ (c .before .before .before .before .before .before .before .before .pre) (c .before .before .before .before .put-last-line .ensures) (c .if1 .taken)
+    let at-put-last-line = c .before .before .before .before in
+    let entry = at-put-last-line .before .before .before .before in
+    let a = entry .args in
+    last-waits (a .memory .now) (a .lines .now) _ (a .used) _ (entry .pre) (at-put-last-line .put-last-line .ensures)
+    (c .if1 .taken)
 
 same-length-2 : tie.Need-same-length-2
 same-length-2 c = search needs
 
 returns-2 : tie.Need-returns-2
 returns-2 c =
-    let a = c .before .before .before .before .before .before .before .before .args in
-    last-told (a .memory .now) (a .lines .now) _ (a .used) _ (c .before .before .before .before .before .before .before .before .pre) (c .before .before .before .before .put-last-line .ensures) (c .if1 .left)
+    let at-put-last-line = c .before .before .before .before in
+    let entry = at-put-last-line .before .before .before .before in
+    let a = entry .args in
+    last-told (a .memory .now) (a .lines .now) _ (a .used) _ (entry .pre) (at-put-last-line .put-last-line .ensures)
+    (c .if1 .left)
 
 pub last-part-spec : {M : Type 1} → statement M
 last-part-spec =

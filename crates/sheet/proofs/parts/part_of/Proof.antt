@@ -1,4 +1,4 @@
--- `sheet::parts::part_of` meets its contract.
+-- `sheet::parts::part_of` meets its contract: without room it goes on (`going-told`), else its last part comes (`going-last`).
 use Rattle.sheet.specs.PartLaws.{going-told, going-last}
 use borrow.Author.Needs.{needs}
 use Rattle.sheet.proofs.parts.part_of.Statement.{statement}
@@ -21,8 +21,9 @@ same-length c = search needs
 
 returns-2 : tie.Need-returns-2
 returns-2 c =
-    let a = c .before .before .before .before .before .before .before .before .args in
-    going-last (a .memory .now) (a .lines .now) (a .run) _ _ (c .before .before .before .before .if1 .left) (c .before .before .last-part .ensures)
+    let at-if1 = c .before .before .before .before in
+    let a = at-if1 .before .before .before .before .args in
+    going-last (a .memory .now) (a .lines .now) (a .run) _ _ (at-if1 .if1 .left) (c .before .before .last-part .ensures)
 
 pub part-of-spec : {M : Type 1} → statement M
 part-of-spec = tie.close (tie.spec sub-t5 returns last-part-requires same-length returns-2)

@@ -1,4 +1,4 @@
--- `sheet::parts::records_before` meets its contract.
+-- `sheet::parts::records_before` meets its contract, by whether the number is at most the place (`before-few`, `before-many`).
 use mathlib.Core.Path.{sym}
 use native.Mathlib.Omega.{arith}
 use Rattle.sheet.specs.PartLaws.{before-few, before-many}

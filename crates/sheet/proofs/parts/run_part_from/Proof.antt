@@ -18,9 +18,13 @@ run-at-requires c κs =
 
 part-of-requires : tie.Need-part-of-requires
 part-of-requires c κs =
-    let s = c .before .before .before .before .before .before .before .before .before .before .before .before .before .before .before .before in
-    let x = c .before .before .before .before .before .before .run-at .ensures in
-    (omega (arith, x .session .same-length, s .pre .0 .0), place-begun (s .args .sheet .now) (s .args .memory .now) (s .args .lines .now) (s .good .0 .0) (s .pre .0 .1) _ _ _ _ _ _ (c .before .before .before .before .before .before .before .before .before .records-before .ensures) x)
+    let at-records-before = c .before .before .before .before .before .before .before .before .before in
+    let s = at-records-before .before .before .before .before .before .before .before in
+    let x = c .before .before .before .before .before .before .run-at .ensures in (
+      omega (arith, x .session .same-length, s .pre .0 .0),
+      place-begun (s .args .sheet .now) (s .args .memory .now) (s .args .lines .now) (s .good .0 .0) (s .pre .0 .1) _ _ _ _ _ _
+          (at-records-before .records-before .ensures) x,
+    )
 
 enum-told : tie.Need-enum-told
 enum-told c = search needs
@@ -39,8 +43,12 @@ same-length-2 c = search needs
 
 returns : tie.Need-returns
 returns c =
-    let s = c .before .before .before .before .before .before .before .before .before .before .before .before .before .before .before .before .before .before .before in
-    rw (c .before .before .before .before .before .before .before .before .before .before .before .before .before .before .from .given .1) (at-part (s .args .sheet .now) (s .args .memory .now) (s .args .lines .now) (s .good .0 .0) (s .pre .0 .1) _ _ _ _ _ _ (c .before .before .before .before .before .before .before .before .before .before .before .before .records-before .ensures) (c .before .before .before .before .before .before .before .before .before .run-at .ensures) _ _ (c .before .before .part-of .ensures))
+    let at-run-at = c .before .before .before .before .before .before .before .before .before in
+    let at-records-before = at-run-at .before .before .before in
+    let s = at-records-before .before .before .before .before .before .before .before in
+    rw (at-records-before .before .before .from .given .1)
+    (at-part (s .args .sheet .now) (s .args .memory .now) (s .args .lines .now) (s .good .0 .0) (s .pre .0 .1) _ _ _ _ _ _
+    (at-records-before .records-before .ensures) (at-run-at .run-at .ensures) _ _ (c .before .before .part-of .ensures))
 
 same-length-3 : tie.Need-same-length-3
 same-length-3 c = search needs
@@ -50,13 +58,17 @@ same-length-4 c = search needs
 
 returns-2 : tie.Need-returns-2
 returns-2 c =
-    let s = c .before .before .before .before .before .before .before .before .before .before in
-    rw (c .before .before .before .before .before .enum-told .given .1) (last-part (s .args .sheet .now) (s .args .memory .now) (s .args .lines .now) (s .good .0 .0) (s .pre .0 .1) _ _ (c .before .before .last-part .ensures))
+    let at-enum-told = c .before .before .before .before .before in
+    let s = at-enum-told .before .before .before .before .before in
+    rw (at-enum-told .enum-told .given .1)
+    (last-part (s .args .sheet .now) (s .args .memory .now) (s .args .lines .now) (s .good .0 .0) (s .pre .0 .1) _ _
+    (c .before .before .last-part .ensures))
 
 returns-3 : tie.Need-returns-3
 returns-3 c =
     let s = c .before .before .before .before .before in
-    rw (c .enum-told2 .given .1) (no-part (s .args .sheet .now) (s .args .memory .now) (s .args .lines .now) (s .good .0 .0) (s .pre .0 .1))
+    rw (c .enum-told2 .given .1)
+    (no-part (s .args .sheet .now) (s .args .memory .now) (s .args .lines .now) (s .good .0 .0) (s .pre .0 .1))
 
 pub run-part-from-spec : {M : Type 1} → statement M
 run-part-from-spec =

@@ -24,23 +24,36 @@ get-requires-4 c κs = search needs
 
 returns-2 : tie.Need-returns-2
 returns-2 c =
-    link-past (read (c .before .before .before .before .before .before .before .args .s .now)) _ _ _ _ (c .before .before .before .get2 .ensures) (c .before .before .get3 .ensures) (c .before .get4 .ensures) (c .if2 .taken)
+    let entry = c .before .before .before .before .before .before .before in
+    link-past (read (entry .args .s .now)) _ _ _ _ (c .before .before .before .get2 .ensures) (c .before .before .get3 .ensures)
+    (c .before .get4 .ensures) (c .if2 .taken)
 
 mul-get : tie.Need-mul-get
 mul-get c = search needs
 
 add-get : tie.Need-add-get
 add-get c =
-    let p = slot-place (read (c .before .before .before .before .before .before .before .args .s .now)) _ _ _ _ (c .before .before .before .get2 .ensures) (c .before .before .get3 .ensures) (c .before .get4 .ensures) (c .before .before .before .before .before .before .before .pre .1) (c .if2 .left) in
+    let entry = c .before .before .before .before .before .before .before in
+    let p = slot-place (read (entry .args .s .now)) _ _ _ _ (c .before .before .before .get2 .ensures)
+    (c .before .before .get3 .ensures) (c .before .get4 .ensures) (entry .pre .1) (c .if2 .left) in
     omega arith
 
 get-requires-5 : tie.Need-get-requires-5
 get-requires-5 c κs =
-    (c .before .before .before .before .before .before .before .pre .0, slot-place (read (c .before .before .before .before .before .before .before .args .s .now)) _ _ _ _ (c .before .before .before .get2 .ensures) (c .before .before .get3 .ensures) (c .before .get4 .ensures) (c .before .before .before .before .before .before .before .pre .1) (c .if2 .left))
+    let entry = c .before .before .before .before .before .before .before in (
+      entry .pre .0,
+      slot-place (read (entry .args .s .now)) _ _ _ _ (c .before .before .before .get2 .ensures)
+          (c .before .before .get3 .ensures)
+          (c .before .get4 .ensures) (entry .pre .1) (c .if2 .left),
+    )
 
 returns-3 : tie.Need-returns-3
 returns-3 c =
-    link-marked (read (c .before .before .before .before .before .before .before .before .args .s .now)) _ _ _ _ (c .before .before .before .before .get2 .ensures) (c .before .before .before .get3 .ensures) (c .before .before .get4 .ensures) _ (λ e. c .before .before .before .before .before .if1 .left (c .before .before .before .before .before .before .get .ensures ∙ e)) (c .before .if2 .left) (c .get5 .ensures)
+    let at-get2 = c .before .before .before .before in
+    let entry = at-get2 .before .before .before .before in
+    link-marked (read (entry .args .s .now)) _ _ _ _ (at-get2 .get2 .ensures) (c .before .before .before .get3 .ensures)
+    (c .before .before .get4 .ensures) _ (λ e. at-get2 .before .if1 .left (at-get2 .before .before .get .ensures ∙ e))
+    (c .before .if2 .left) (c .get5 .ensures)
 
 pub is-link-settled-spec : {M : Type 1} → statement M
 is-link-settled-spec =

@@ -27,18 +27,28 @@ loop-holds c = (omega arith, λ i h. absurd (omega arith))
 
 is-link-settled-requires : tie.Need-is-link-settled-requires Inv-loop μ-loop
 is-link-settled-requires c κs =
-    let p = c .before .before .before .before .pre in
-    (p .0, leads (read (c .before .before .before .before .args .s .now)) (p .1) _ (omega (arith, c .before .before .get .ensures)))
+    let entry = c .before .before .before .before in
+    let p = entry .pre in
+    (p .0, leads (read (entry .args .s .now)) (p .1) _ (omega (arith, c .before .before .get .ensures)))
 
 returns : tie.Need-returns Inv-loop μ-loop
 returns c =
-    let s = read (c .before .before .before .before .before .before .args .s .now) in
+    let at-get = c .before .before .before .before in
+    let s = read (at-get .before .before .args .s .now) in
     let l = c .before .before .before .loop .l in
     let here = failed (linkSettled s l) (sym (c .before .is-link-settled .ensures) ∙ not-true _ (c .if1 .taken)) in
-    sym (fails (each (s Links 0 + 1) (linkSettled s)) (λ f. here (f l (omega (arith, c .before .before .before .before .get .ensures))))) ∙ settled-links s (c .before .before .before .before .before .before .pre .1)
+    sym (fails (each (s Links 0 + 1) (linkSettled s)) (λ f. here (f l (omega (arith, at-get .get .ensures)))))
+    ∙ settled-links s (at-get .before .before .pre .1)
 
 add-l : tie.Need-add-l Inv-loop μ-loop
-add-l c = omega (arith, c .before .before .before .before .get .ensures, leads (read (c .before .before .before .before .before .before .args .s .now)) (c .before .before .before .before .before .before .pre .1) (c .before .before .before .loop .l) (omega (arith, c .before .before .before .before .get .ensures)) .link)
+add-l c =
+    let at-get = c .before .before .before .before in
+    omega (
+      arith,
+      at-get .get .ensures,
+      leads (read (at-get .before .before .args .s .now)) (at-get .before .before .pre .1) (c .before .before .before .loop .l)
+          (omega (arith, at-get .get .ensures)) .link,
+    )
 
 loop-less : tie.Need-loop-less Inv-loop μ-loop
 loop-less c = omega arith
@@ -46,13 +56,18 @@ loop-less c = omega arith
 loop-again : tie.Need-loop-again Inv-loop μ-loop
 loop-again c =
     let s = read (c .before .before .before .before .before .before .args .s .now) in
-    let l = c .before .before .before .loop in
-    (omega arith, below-more _ _ (l .inv .1) (passed (linkSettled s (l .l)) (sym (c .before .is-link-settled .ensures) ∙ not-false _ (c .if1 .left))))
+    let l = c .before .before .before .loop in (
+      omega arith,
+      below-more _ _ (l .inv .1)
+          (passed (linkSettled s (l .l)) (sym (c .before .is-link-settled .ensures) ∙ not-false _ (c .if1 .left))),
+    )
 
 returns-2 : tie.Need-returns-2 Inv-loop μ-loop
 returns-2 c =
-    let s = read (c .before .before .before .before .args .s .now) in
-    sym (passes (each (s Links 0 + 1) (linkSettled s)) (λ i h. c .before .loop .inv .1 i (omega (arith, c .before .before .get .ensures)))) ∙ settled-links s (c .before .before .before .before .pre .1)
+    let entry = c .before .before .before .before in
+    let s = read (entry .args .s .now) in
+    sym (passes (each (s Links 0 + 1) (linkSettled s))
+    (λ i h. c .before .loop .inv .1 i (omega (arith, c .before .before .get .ensures)))) ∙ settled-links s (entry .pre .1)
 
 pub is-settled-spec : {M : Type 1} → statement M
 is-settled-spec =

@@ -1,3 +1,4 @@
+-- `sound::blocks::are_blocks` meets its contract: what `is_block` answers, from block b to b + 1 (`each-more`).
 use Prim.Native.Nat.{_+_, _-_, _≤_}
 use mathlib.Core.Path.{_≡_, sym}
 use native.Mathlib.Omega.{arith}

@@ -1,6 +1,8 @@
+-- `sound::blocks::mark_all_held` meets its contract: zeros are the row at 0 (`held-none`); `mark_held` leads from i to i + 1.
 use Prim.Native.Nat.{_+_, _-_, _*_, _≤_}
 use mathlib.Core.Path.{_≡_, refl}
 use native.Mathlib.Omega.{arith}
+use Rattle.session.specs.Names.{objectPlaces}
 use Rattle.session.specs.Table.{read}
 use Rattle.sound.specs.Held.{heldBy, held-none}
 use Rattle.sound.specs.Row.{Row}
@@ -8,7 +10,7 @@ use Rattle.sound.proofs.blocks.mark_all_held.Statement.{statement}
 use Rattle.sound.proofs.blocks.mark_all_held.Tie as tie
 
 abbrev Inv-loop : tie.InvT-loop
-Inv-loop s row₀ n end i₀ row i = (i ≤ end) × (end ≡ 16 * (n + 1)) × Row row 513 (heldBy (read s) i)
+Inv-loop s row₀ n end i₀ row i = (i ≤ end) × (end ≡ 16 * (n + 1)) × Row row objectPlaces (heldBy (read s) i)
 
 abbrev μ-loop : tie.MeasureT-loop
 μ-loop s row₀ n end i₀ row i = end - i

@@ -1,3 +1,4 @@
+-- `sound::blocks::mark_held` meets its contract: a held block with a place is marked (`held-yes`); else as before (`held-no`).
 use mathlib.Core.Path.{_≡_, sym, _∙_}
 use native.Mathlib.Omega.{arith}
 use borrow.Author.Needs.{needs}
@@ -26,7 +27,8 @@ returns c =
     let s = read (a .s .now) in
     let e = c .before .before .before .of-slot .ensures in
     let m : s SlotMark (a .i) ≡ 2 = sym (c .before .before .of-slot2 .ensures) ∙ c .before .if1 .taken in
-    rw e (held-yes s (a .row .now) (a .i) (x .pre .1) m (rw e at (c .if2 .taken)))
+    let l = rw e at (c .if2 .taken) in
+    rw e (held-yes s (a .row .now) (a .i) (x .pre .1) m (omega arith))
 
 returns-2 : tie.Need-returns-2
 returns-2 c =

@@ -1,16 +1,18 @@
+-- `sound::holders::are_compatible_by` meets its contract: from i to i + 1, the answer by `each-more`, the row by `note_holder`.
 use Prim.Native.Nat.{_+_, _-_, _*_, _≤_}
 use mathlib.Core.Path.{_≡_, refl, sym}
 use native.Mathlib.Omega.{arith}
 use Rattle.session.specs.Table.{read}
 use Rattle.rules.specs.Formula.{test, Formula.each}
-use Rattle.sound.specs.Holders.{Holders, holders-none}
+use Rattle.sound.specs.HolderTable.{Holders, holders-none}
 use Rattle.sound.specs.Bodies.{compatibleAt}
 use Rattle.sound.specs.Loops.{each-none, each-more}
 use Rattle.sound.proofs.holders.are_compatible_by.Statement.{statement}
 use Rattle.sound.proofs.holders.are_compatible_by.Tie as tie
 
 abbrev Inv-loop : tie.InvT-loop
-Inv-loop s row₀ n end ok₀ i₀ row ok i = (i ≤ end) × (end ≡ 16 * (n + 1)) × (ok ≡ test (each i (compatibleAt (read s)))) × Holders (read s) row i
+Inv-loop s row₀ n end ok₀ i₀ row ok i =
+    (i ≤ end) × (end ≡ 16 * (n + 1)) × (ok ≡ test (each i (compatibleAt (read s)))) × Holders (read s) row i
 
 abbrev μ-loop : tie.MeasureT-loop
 μ-loop s row₀ n end ok₀ i₀ row ok i = end - i
@@ -22,7 +24,9 @@ mul-end : tie.Need-mul-end Inv-loop μ-loop
 mul-end c = omega arith
 
 loop-holds : tie.Need-loop-holds Inv-loop μ-loop
-loop-holds c = let p = c .before .pre in (omega arith, refl, sym (each-none _), holders-none (read (c .before .args .s .now)) _ (p .3 .size) (p .3 .entry))
+loop-holds c =
+    let p = c .before .pre in
+    (omega arith, refl, sym (each-none _), holders-none (read (c .before .args .s .now)) _ (p .3 .size) (p .3 .entry))
 
 is-compatible-requires : tie.Need-is-compatible-requires Inv-loop μ-loop
 is-compatible-requires c κs =
@@ -44,8 +48,13 @@ loop-less c = omega arith
 
 loop-again : tie.Need-loop-again Inv-loop μ-loop
 loop-again c =
-    let l = c .before .before .before .before .before .loop in
-    (omega arith, refl, rw (c .before .before .is-compatible .ensures, l .inv .2) (sym (each-more (l .i) _)), c .note-holder .ensures)
+    let l = c .before .before .before .before .before .loop in (
+      omega arith,
+      refl,
+      rw (c .before .before .is-compatible .ensures, l .inv .2)
+          (sym (each-more (l .i) _)),
+      c .note-holder .ensures,
+    )
 
 returns : tie.Need-returns Inv-loop μ-loop
 returns c =

@@ -1,3 +1,4 @@
+-- `sound::holders::clashes_with_maker` meets its contract: block, mode, maker and hold are read and compared (`simp` with Bools).
 use borrow.Author.Needs.{needs}
 use Rattle.rules.specs.Bools.{test-not, test-both, test-either, test-eq}
 use Rattle.sound.proofs.holders.clashes_with_maker.Statement.{statement}
@@ -19,7 +20,8 @@ conflicts-requires : tie.Need-conflicts-requires
 conflicts-requires c κs = search needs
 
 returns : tie.Need-returns
-returns c = rw (c .conflicts .ensures, c .before .of-object2 .ensures, c .before .before .of-object .ensures, c .before .before .before .of-slot2 .ensures, c .before .before .before .before .of-slot .ensures) (simp (test-not, test-both, test-either, test-eq))
+returns c =
+    rw (c .conflicts .ensures, c .before .of-object2 .ensures, c .before .before .of-object .ensures, c .before .before .before .of-slot2 .ensures, c .before .before .before .before .of-slot .ensures) (simp (test-not, test-both, test-either, test-eq))
 
 pub clashes-with-maker-spec : {M : Type 1} → statement M
 clashes-with-maker-spec =

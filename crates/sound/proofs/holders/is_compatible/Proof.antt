@@ -1,3 +1,4 @@
+-- `sound::holders::is_compatible` meets its contract: not held passes (`passes`); else by no clash (`none-clashes`, `test-then`).
 use mathlib.Core.Path.{sym, _∙_}
 use borrow.Author.Needs.{needs}
 use Rattle.session.specs.Names.{held}
@@ -5,7 +6,7 @@ use Rattle.session.specs.declared.Field.the-variants.{SlotMark}
 use Rattle.session.specs.Table.{read}
 use Rattle.rules.specs.FormulaLaws.{passes, test-then}
 use Rattle.rules.specs.Formula.{not, Formula._≐_, Formula._and_, Formula.each}
-use Rattle.sound.specs.Holders.{none-clashes}
+use Rattle.sound.specs.HolderTable.{none-clashes}
 use Rattle.sound.specs.Bodies.{clash, clashMade}
 use Rattle.rules.specs.Bools.{test-both, test-not}
 use Rattle.sound.proofs.holders.is_compatible.Statement.{statement}

@@ -1,5 +1,6 @@
+-- `sound::holders::join` meets its contract: nobody noted, the same task, or another, each by the definition of `joined`.
 use borrow.Author.Tests.{eq-eqb, ne-eqb}
-use Rattle.sound.specs.Holders.{joined}
+use Rattle.sound.specs.HolderTable.{joined}
 use Rattle.sound.proofs.holders.join.Statement.{statement}
 use Rattle.sound.proofs.holders.join.Tie as tie
 

@@ -1,9 +1,11 @@
+-- `sound::holders::note_held` meets its contract: the joined holder in its cell makes the row of i + 1 slots (`holders-more`).
 use Prim.Native.Nat.{_/_, _<_}
 use native.Mathlib.Omega.{arith}
 use borrow.Author.Needs.{needs}
+use Rattle.session.specs.Names.{objectPlaces}
 use Rattle.session.specs.Table.{read}
 use Rattle.laws.specs.SlotPlaces.{place-owner}
-use Rattle.sound.specs.Holders.{holders-more}
+use Rattle.sound.specs.HolderTable.{holders-more}
 use Rattle.sound.proofs.holders.note_held.Statement.{statement}
 use Rattle.sound.proofs.holders.note_held.Tie as tie
 
@@ -43,7 +45,7 @@ returns c =
     let a = x .args in
     let s = read (a .s .now) in
     let h = x .pre .3 in
-    let t : a .i / 16 < 513 = place-owner 513 (a .i) (x .pre .1) in
+    let t : a .i / 16 < objectPlaces = place-owner objectPlaces (a .i) (x .pre .1) in
     rw (c .join .ensures, c .before .before .before .of-slot .ensures, c .before .before .of-slot2 .ensures)
     (holders-more s (a .row .now) (a .i) (x .pre .4) (x .pre .2) (h .block) (h .mode .0) (h .mode .1) (h .task-low) (omega arith))
 

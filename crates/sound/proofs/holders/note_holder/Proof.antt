@@ -1,7 +1,8 @@
+-- `sound::holders::note_holder` meets its contract: a hold is noted by `note_held`; else the row is kept (`holders-skip`).
 use mathlib.Core.Path.{sym, _∙_}
 use borrow.Author.Needs.{needs}
 use Rattle.session.specs.Table.{read}
-use Rattle.sound.specs.Holders.{holders-skip}
+use Rattle.sound.specs.HolderTable.{holders-skip}
 use Rattle.sound.proofs.holders.note_holder.Statement.{statement}
 use Rattle.sound.proofs.holders.note_holder.Tie as tie
 

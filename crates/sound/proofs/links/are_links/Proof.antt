@@ -1,3 +1,4 @@
+-- `sound::links::are_links` meets its contract: what `is_link_or_null` answers, from link l to l + 1 (`each-more`).
 use Prim.Native.Nat.{_+_, _-_, _≤_}
 use mathlib.Core.Path.{_≡_, sym}
 use native.Mathlib.Omega.{arith}

@@ -1,3 +1,4 @@
+-- `sound::links::count_delivered` meets its contract: from l to l + 1, by what l is (`count-next-yes`, `count-next-no`).
 use Prim.Native.Nat.{_+_, _-_, _≤_}
 use mathlib.Core.Logic.{⊎-elim}
 use mathlib.Core.Path.{_≡_, sym, _∙_}
@@ -38,8 +39,10 @@ loop-again c =
     let l = c .before .before .before .loop in
     let e = c .before .is-delivered .ensures in
     let f = isDelivered (read (c .before .before .before .before .before .args .s .now)) in
-    ⊎-elim (λ w. let y = count-next-yes (l .l) f (passed (f (l .l)) (sym e ∙ w .0 .taken)) in (omega arith, omega (arith, w .1, y, l .inv .1), omega (arith, w .1, l .inv .2)))
-    (λ w. let y = count-next-no (l .l) f (failed (f (l .l)) (sym e ∙ w .0 .left)) in (omega arith, omega (arith, w .1, y, l .inv .1), omega (arith, w .1, l .inv .2)))
+    ⊎-elim (λ w. let y = count-next-yes (l .l) f (passed (f (l .l)) (sym e ∙ w .0 .taken)) in
+    (omega arith, omega (arith, w .1, y, l .inv .1), omega (arith, w .1, l .inv .2)))
+    (λ w. let y = count-next-no (l .l) f (failed (f (l .l)) (sym e ∙ w .0 .left)) in
+    (omega arith, omega (arith, w .1, y, l .inv .1), omega (arith, w .1, l .inv .2)))
     (c .if1 .came)
 
 returns : tie.Need-returns Inv-loop μ-loop

@@ -1,3 +1,4 @@
+-- `sound::links::does_link_agree` meets its contract: both states are read and compared, an `iff` both ways (`simp` with Bools).
 use borrow.Author.Needs.{needs}
 use Rattle.rules.specs.Bools.{test-both, test-implies, test-eq, test-le}
 use Rattle.sound.proofs.links.does_link_agree.Statement.{statement}
@@ -13,7 +14,9 @@ of-object-requires : tie.Need-of-object-requires
 of-object-requires c κs = search needs
 
 returns : tie.Need-returns
-returns c = rw (c .of-object .ensures, c .before .of-link2 .ensures, c .before .before .of-link .ensures) (simp (test-both, test-implies, test-eq, test-le))
+returns c =
+    rw (c .of-object .ensures, c .before .of-link2 .ensures, c .before .before .of-link .ensures)
+    (simp (test-both, test-implies, test-eq, test-le))
 
 pub does-link-agree-spec : {M : Type 1} → statement M
 does-link-agree-spec =

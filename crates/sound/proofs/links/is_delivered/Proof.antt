@@ -1,3 +1,4 @@
+-- `sound::links::is_delivered` meets its contract: the state is read, and the comparison is the formula's test (`test-eq`).
 use borrow.Author.Needs.{needs}
 use Rattle.rules.specs.Bools.{test-eq}
 use Rattle.sound.proofs.links.is_delivered.Statement.{statement}

@@ -1,3 +1,4 @@
+-- `sound::links::is_link` meets its contract: the link and both ends' kinds are read, callees give the rest (`simp` with Bools).
 use borrow.Author.Needs.{needs}
 use Rattle.rules.specs.Bools.{test-both, test-either, test-eq}
 use Rattle.sound.proofs.links.is_link.Statement.{statement}
@@ -34,7 +35,8 @@ of-object-requires-2 : tie.Need-of-object-requires-2
 of-object-requires-2 c κs = search needs
 
 returns : tie.Need-returns
-returns c = rw (c .of-object2 .ensures, c .before .is-made2 .ensures, c .before .before .does-link-agree .ensures, c .before .before .before .has-slot .ensures, c .before .before .before .before .is-made .ensures, c .before .before .before .before .before .is-user-event .ensures, c .before .before .before .before .before .before .of-object .ensures, c .before .before .before .before .before .before .before .of-link3 .ensures, c .before .before .before .before .before .before .before .before .of-link2 .ensures, c .before .before .before .before .before .before .before .before .before .of-link .ensures) (simp (test-both, test-either, test-eq))
+returns c =
+    rw (c .of-object2 .ensures, c .before .is-made2 .ensures, c .before .before .does-link-agree .ensures, c .before .before .before .has-slot .ensures, c .before .before .before .before .is-made .ensures, c .before .before .before .before .before .is-user-event .ensures, c .before .before .before .before .before .before .of-object .ensures, c .before .before .before .before .before .before .before .of-link3 .ensures, c .before .before .before .before .before .before .before .before .of-link2 .ensures, c .before .before .before .before .before .before .before .before .before .of-link .ensures) (simp (test-both, test-either, test-eq))
 
 pub is-link-spec : {M : Type 1} → statement M
 is-link-spec =

@@ -1,3 +1,4 @@
+-- `sound::links::is_link_or_null` meets its contract: l is 0, or what `is_link` answers (`simp` with Bools).
 use borrow.Author.Needs.{needs}
 use Rattle.rules.specs.Bools.{test-either, test-eq}
 use Rattle.sound.proofs.links.is_link_or_null.Statement.{statement}

@@ -1,3 +1,4 @@
+-- `sound::objects::are_counts` meets its contract: both counts are read and their bounds compared (`simp` with Bools).
 use borrow.Author.Needs.{needs}
 use Rattle.rules.specs.Bools.{test-both, test-le}
 use Rattle.sound.proofs.objects.are_counts.Statement.{statement}

@@ -1,3 +1,4 @@
+-- `sound::objects::are_latches` meets its contract: what `is_latch` answers, from handle e to e + 1 (`each-more`).
 use Prim.Native.Nat.{_+_, _-_, _≤_}
 use mathlib.Core.Path.{_≡_, sym}
 use native.Mathlib.Omega.{arith}

@@ -1,3 +1,4 @@
+-- `sound::objects::are_objects` meets its contract: what `is_object` answers, from handle h to h + 1 (`each-more`).
 use Prim.Native.Nat.{_+_, _-_, _≤_}
 use mathlib.Core.Path.{_≡_, sym}
 use native.Mathlib.Omega.{arith}

@@ -1,3 +1,4 @@
+-- `sound::objects::are_roots` meets its contract: ten numbers of block 1, task 2 and slot 32 are compared (`simp` with Bools).
 use borrow.Author.Needs.{needs}
 use Rattle.rules.specs.Bools.{test-both, test-eq, test-le}
 use Rattle.sound.proofs.objects.are_roots.Statement.{statement}
@@ -34,7 +35,8 @@ of-object-requires-7 : tie.Need-of-object-requires-7
 of-object-requires-7 c κs = search needs
 
 returns : tie.Need-returns
-returns c = rw (c .of-object7 .ensures, c .before .of-object6 .ensures, c .before .before .of-object5 .ensures, c .before .before .before .of-object4 .ensures, c .before .before .before .before .of-object3 .ensures, c .before .before .before .before .before .of-object2 .ensures, c .before .before .before .before .before .before .of-object .ensures, c .before .before .before .before .before .before .before .of-slot3 .ensures, c .before .before .before .before .before .before .before .before .of-slot2 .ensures, c .before .before .before .before .before .before .before .before .before .of-slot .ensures) (simp (test-both, test-eq, test-le))
+returns c =
+    rw (c .of-object7 .ensures, c .before .of-object6 .ensures, c .before .before .of-object5 .ensures, c .before .before .before .of-object4 .ensures, c .before .before .before .before .of-object3 .ensures, c .before .before .before .before .before .of-object2 .ensures, c .before .before .before .before .before .before .of-object .ensures, c .before .before .before .before .before .before .before .of-slot3 .ensures, c .before .before .before .before .before .before .before .before .of-slot2 .ensures, c .before .before .before .before .before .before .before .before .before .of-slot .ensures) (simp (test-both, test-eq, test-le))
 
 pub are-roots-spec : {M : Type 1} → statement M
 are-roots-spec =

@@ -1,3 +1,4 @@
+-- `sound::objects::block_part` meets its contract: the fields and the creator's kind are read and compared (`simp` with Bools).
 use borrow.Author.Needs.{needs}
 use Rattle.rules.specs.Bools.{test-not, test-both, test-either, test-eq, test-le}
 use Rattle.sound.proofs.objects.block_part.Statement.{statement}
@@ -22,7 +23,8 @@ of-object-requires-5 : tie.Need-of-object-requires-5
 of-object-requires-5 c κs = search needs
 
 returns : tie.Need-returns
-returns c = rw (c .of-object5 .ensures, c .before .is-made .ensures, c .before .before .of-object4 .ensures, c .before .before .before .of-object3 .ensures, c .before .before .before .before .of-object2 .ensures, c .before .before .before .before .before .of-object .ensures) (simp (test-not, test-both, test-either, test-eq, test-le))
+returns c =
+    rw (c .of-object5 .ensures, c .before .is-made .ensures, c .before .before .of-object4 .ensures, c .before .before .before .of-object3 .ensures, c .before .before .before .before .of-object2 .ensures, c .before .before .before .before .before .of-object .ensures) (simp (test-not, test-both, test-either, test-eq, test-le))
 
 pub block-part-spec : {M : Type 1} → statement M
 block-part-spec =

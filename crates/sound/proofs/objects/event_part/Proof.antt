@@ -1,3 +1,4 @@
+-- `sound::objects::event_part` meets its contract: five numbers are read, callees judge type and payload (`simp` with Bools).
 use borrow.Author.Needs.{needs}
 use Rattle.rules.specs.Bools.{test-not, test-both, test-either, test-eq, test-le}
 use Rattle.sound.proofs.objects.event_part.Statement.{statement}
@@ -18,11 +19,18 @@ of-object-requires-4 c κs = search needs
 of-object-requires-5 : tie.Need-of-object-requires-5
 of-object-requires-5 c κs = search needs
 
+is-event-type-requires : tie.Need-is-event-type-requires
+is-event-type-requires c κs = search needs
+
 is-payload-requires : tie.Need-is-payload-requires
 is-payload-requires c κs = search needs
 
 returns : tie.Need-returns
-returns c = rw (c .is-payload .ensures, c .before .of-object5 .ensures, c .before .before .of-object4 .ensures, c .before .before .before .of-object3 .ensures, c .before .before .before .before .of-object2 .ensures, c .before .before .before .before .before .of-object .ensures) (simp (test-not, test-both, test-either, test-eq, test-le))
+returns c =
+    let f = c .before .before in
+    let type = f .before .before .before in
+    rw (c .is-payload .ensures, c .before .is-event-type .ensures, f .of-object5 .ensures, f .before .of-object4 .ensures, f .before .before .of-object3 .ensures, type .of-object2 .ensures, type .before .of-object .ensures)
+    (simp (test-not, test-both, test-either, test-eq, test-le))
 
 pub event-part-spec : {M : Type 1} → statement M
 event-part-spec =
@@ -33,5 +41,6 @@ event-part-spec =
     of-object-requires-3
     of-object-requires-4
     of-object-requires-5
+    is-event-type-requires
     is-payload-requires
     returns)

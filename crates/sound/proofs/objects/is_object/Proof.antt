@@ -1,3 +1,4 @@
+-- `sound::objects::is_object` meets its contract: the kind's range, and the answers of the four parts (`simp` with Bools).
 use borrow.Author.Needs.{needs}
 use Rattle.rules.specs.Bools.{test-implies, test-both, test-le}
 use Rattle.sound.proofs.objects.is_object.Statement.{statement}
@@ -19,7 +20,8 @@ block-part-requires : tie.Need-block-part-requires
 block-part-requires c κs = search needs
 
 returns : tie.Need-returns
-returns c = rw (c .block-part .ensures, c .before .event-part .ensures, c .before .before .task-part .ensures, c .before .before .before .template-part .ensures, c .before .before .before .before .of-object .ensures) (simp (test-implies, test-both, test-le))
+returns c =
+    rw (c .block-part .ensures, c .before .event-part .ensures, c .before .before .task-part .ensures, c .before .before .before .template-part .ensures, c .before .before .before .before .of-object .ensures) (simp (test-implies, test-both, test-le))
 
 pub is-object-spec : {M : Type 1} → statement M
 is-object-spec =

@@ -1,3 +1,4 @@
+-- `sound::objects::task_part` meets its contract: five fields and the kind are read and compared (`simp` with Bools).
 use borrow.Author.Needs.{needs}
 use Rattle.rules.specs.Bools.{test-not, test-both, test-either, test-eq, test-le}
 use Rattle.sound.proofs.objects.task_part.Statement.{statement}
@@ -22,7 +23,8 @@ of-object-requires-6 : tie.Need-of-object-requires-6
 of-object-requires-6 c κs = search needs
 
 returns : tie.Need-returns
-returns c = rw (c .of-object6 .ensures, c .before .of-object5 .ensures, c .before .before .of-object4 .ensures, c .before .before .before .of-object3 .ensures, c .before .before .before .before .of-object2 .ensures, c .before .before .before .before .before .of-object .ensures) (simp (test-not, test-both, test-either, test-eq, test-le))
+returns c =
+    rw (c .of-object6 .ensures, c .before .of-object5 .ensures, c .before .before .of-object4 .ensures, c .before .before .before .of-object3 .ensures, c .before .before .before .before .of-object2 .ensures, c .before .before .before .before .before .of-object .ensures) (simp (test-not, test-both, test-either, test-eq, test-le))
 
 pub task-part-spec : {M : Type 1} → statement M
 task-part-spec =

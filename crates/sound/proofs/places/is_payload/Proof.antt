@@ -1,3 +1,4 @@
+-- `sound::places::is_payload` meets its contract: 0, or a handle that is made and of kind block (`simp` with Bools).
 use borrow.Author.Needs.{needs}
 use Rattle.rules.specs.Bools.{test-both, test-either, test-eq, test-le}
 use Rattle.sound.proofs.places.is_payload.Statement.{statement}

@@ -1,3 +1,4 @@
+-- `sound::slots::are_single` meets its contract: what `is_single` answers, from l to l + 1 (`each-more`), at 1 by `single-first`.
 use Prim.Native.Nat.{_+_, _-_, _≤_}
 use mathlib.Core.Path.{_≡_, sym}
 use native.Mathlib.Omega.{arith}

@@ -1,3 +1,4 @@
+-- `sound::slots::is_claimed_by` meets its contract: three fields are read, and three callees give the rest (`simp` with Bools).
 use borrow.Author.Needs.{needs}
 use Rattle.rules.specs.Bools.{test-implies, test-both, test-eq, test-le}
 use Rattle.sound.proofs.slots.is_claimed_by.Statement.{statement}
@@ -40,7 +41,8 @@ is-payload-requires : tie.Need-is-payload-requires
 is-payload-requires c κs = search needs
 
 returns : tie.Need-returns
-returns c = rw (c .is-payload .ensures, c .before .is-paid-by .ensures, c .before .before .is-linked-by .ensures, c .before .before .before .of-slot3 .ensures, c .before .before .before .before .of-slot2 .ensures, c .before .before .before .before .before .of-slot .ensures) (simp (test-implies, test-both, test-eq, test-le))
+returns c =
+    rw (c .is-payload .ensures, c .before .is-paid-by .ensures, c .before .before .is-linked-by .ensures, c .before .before .before .of-slot3 .ensures, c .before .before .before .before .of-slot2 .ensures, c .before .before .before .before .before .of-slot .ensures) (simp (test-implies, test-both, test-eq, test-le))
 
 pub is-claimed-by-spec : {M : Type 1} → statement M
 is-claimed-by-spec =

@@ -1,3 +1,4 @@
+-- `sound::slots::is_linked_by` meets its contract: the mark and the two states are read and compared (`simp` with Bools).
 use borrow.Author.Needs.{needs}
 use Rattle.rules.specs.Bools.{test-not, test-both, test-either, test-implies, test-eq, test-le}
 use Rattle.sound.proofs.slots.is_linked_by.Statement.{statement}
@@ -19,7 +20,9 @@ of-object-requires : tie.Need-of-object-requires
 of-object-requires c κs = search needs
 
 returns : tie.Need-returns
-returns c = rw (c .of-object .ensures, c .before .of-link .ensures, c .before .before .of-slot .ensures) (simp (test-not, test-both, test-either, test-implies, test-eq, test-le))
+returns c =
+    rw (c .of-object .ensures, c .before .of-link .ensures, c .before .before .of-slot .ensures)
+    (simp (test-not, test-both, test-either, test-implies, test-eq, test-le))
 
 pub is-linked-by-spec : {M : Type 1} → statement M
 is-linked-by-spec =

@@ -1,3 +1,4 @@
+-- `sound::slots::is_paid_by` meets its contract: slot, link and the source's payload are read and compared (`simp` with Bools).
 use borrow.Author.Needs.{needs}
 use Rattle.rules.specs.Bools.{test-both, test-implies, test-eq, test-le}
 use Rattle.sound.proofs.slots.is_paid_by.Statement.{statement}
@@ -31,7 +32,8 @@ of-slot-requires-2 : tie.Need-of-slot-requires-2
 of-slot-requires-2 c κs = search needs
 
 returns : tie.Need-returns
-returns c = rw (c .of-slot2 .ensures, c .before .of-object .ensures, c .before .before .of-link2 .ensures, c .before .before .before .of-link .ensures, c .before .before .before .before .of-slot .ensures) (simp (test-both, test-implies, test-eq, test-le))
+returns c =
+    rw (c .of-slot2 .ensures, c .before .of-object .ensures, c .before .before .of-link2 .ensures, c .before .before .before .of-link .ensures, c .before .before .before .before .of-slot .ensures) (simp (test-both, test-implies, test-eq, test-le))
 
 pub is-paid-by-spec : {M : Type 1} → statement M
 is-paid-by-spec =

@@ -1,3 +1,4 @@
+-- `sound::slots::is_single` meets its contract: to no task it passes (`passes`); else the row has the last link (`test-then`).
 use Prim.Native.Nat.{_+_}
 use mathlib.Core.Path.{_≡_, sym, _∙_}
 use native.Mathlib.Omega.{arith}
@@ -52,9 +53,12 @@ returns-2 c =
     let i = at (s LinkTarget (a .l)) (s LinkSlot (a .l)) in
     let e = c .before .before .before .before .before .of-link .ensures in
     let d = c .before .before .before .before .of-link2 .ensures in
-    let t : s Kind (s LinkTarget (a .l)) ≡ 2 = rw e at (sym (c .before .before .before .of-object .ensures) ∙ c .before .before .if1 .left) in
+    let t : s Kind (s LinkTarget (a .l)) ≡ 2 = rw e at
+    (sym (c .before .before .before .of-object .ensures) ∙ c .before .before .if1 .left) in
     let q : getD (a .row .now) i 0 ≡ lastLink s (s Links 0 + 1) i = p .4 .entry i (omega (arith, p .2, p .3)) in
-    rw (c .wide .ensures, e, d, q) (sym (test-then (1 ≼ a .l and isKind s task (s LinkTarget (a .l))) (lastLink s (s Links 0 + 1) i ≐ a .l) (p .1, t) ∙ test-eq _ _))
+    rw (c .wide .ensures, e, d, q)
+    (sym (test-then (1 ≼ a .l and isKind s task (s LinkTarget (a .l))) (lastLink s (s Links 0 + 1) i ≐ a .l) (p .1, t)
+    ∙ test-eq _ _))
 
 pub is-single-spec : {M : Type 1} → statement M
 is-single-spec =

@@ -1,3 +1,4 @@
+-- `sound::slots::is_slot` meets its contract: the row has the last link to the slot, the m of what `is_slot_by` answers.
 use Prim.Native.Nat.{ℕ}
 use mathlib.Core.Path.{_∙_, ap}
 use native.Mathlib.Omega.{arith}
@@ -31,7 +32,8 @@ returns : tie.Need-returns
 returns c =
     let x = c .before .before .before .before in
     let a = x .args in
-    c .is-slot-by .ensures ∙ ap (λ (m : ℕ). test (slotBy (read (a .s .now)) m (a .h) (a .j))) (c .before .wide .ensures ∙ x .pre .3 .entry (at (a .h) (a .j)) (omega arith))
+    c .is-slot-by .ensures ∙ ap (λ (m : ℕ). test (slotBy (read (a .s .now)) m (a .h) (a .j)))
+    (c .before .wide .ensures ∙ x .pre .3 .entry (at (a .h) (a .j)) (omega arith))
 
 pub is-slot-spec : {M : Type 1} → statement M
 is-slot-spec =

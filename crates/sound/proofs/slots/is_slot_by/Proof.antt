@@ -1,3 +1,4 @@
+-- `sound::slots::is_slot_by` meets its contract: a slot there is unclaimed or claimed (`slot-there`), else none (`slot-nowhere`).
 use mathlib.Core.Path.{sym, _∙_}
 use borrow.Author.Needs.{needs}
 use Rattle.session.specs.Table.{read}
@@ -22,7 +23,8 @@ returns c =
     let t = c .before .before in
     let a = t .before .before .before .before .args in
     let e = rw (t .before .of-object2 .ensures, t .before .before .of-object .ensures) at (t .if1 .taken) in
-    rw (c .is-claimed-by .ensures, c .before .is-unclaimed-by .ensures) (sym (slot-there (read (a .s .now)) (a .m) (a .h) (a .j) e))
+    rw (c .is-claimed-by .ensures, c .before .is-unclaimed-by .ensures)
+    (sym (slot-there (read (a .s .now)) (a .m) (a .h) (a .j) e))
 
 mul-is-no-slot : tie.Need-mul-is-no-slot
 mul-is-no-slot c = search needs

@@ -1,3 +1,4 @@
+-- `sound::slots::is_unclaimed_by` meets its contract: mode, mark, payload and link are compared with 0 (`simp` with Bools).
 use borrow.Author.Needs.{needs}
 use Rattle.rules.specs.Bools.{test-both, test-eq}
 use Rattle.sound.proofs.slots.is_unclaimed_by.Statement.{statement}
@@ -31,7 +32,8 @@ of-slot-requires-3 : tie.Need-of-slot-requires-3
 of-slot-requires-3 c κs = search needs
 
 returns : tie.Need-returns
-returns c = rw (c .of-slot3 .ensures, c .before .of-slot2 .ensures, c .before .before .of-slot .ensures) (simp (test-both, test-eq))
+returns c =
+    rw (c .of-slot3 .ensures, c .before .of-slot2 .ensures, c .before .before .of-slot .ensures) (simp (test-both, test-eq))
 
 pub is-unclaimed-by-spec : {M : Type 1} → statement M
 is-unclaimed-by-spec =

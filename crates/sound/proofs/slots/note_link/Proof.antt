@@ -1,3 +1,4 @@
+-- `sound::slots::note_link` meets its contract: to a task l is the last link there (`row-link`); else the row stays (`row-skip`).
 use mathlib.Core.Path.{_≡_, sym, _∙_}
 use native.Mathlib.Omega.{arith}
 use borrow.Author.Needs.{needs}

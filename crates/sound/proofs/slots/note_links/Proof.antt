@@ -1,6 +1,8 @@
+-- `sound::slots::note_links` meets its contract: zeros are the row at link 1 (`row-first`); `note_link` leads from l to l + 1.
 use Prim.Native.Nat.{_+_, _-_, _≤_}
 use mathlib.Core.Path.{_≡_}
 use native.Mathlib.Omega.{arith}
+use Rattle.session.specs.Names.{slotPlaces}
 use Rattle.session.specs.Table.{read}
 use Rattle.sound.specs.LinkOf.{lastLink, row-first}
 use Rattle.sound.specs.Row.{Row}
@@ -8,7 +10,7 @@ use Rattle.sound.proofs.slots.note_links.Statement.{statement}
 use Rattle.sound.proofs.slots.note_links.Tie as tie
 
 abbrev Inv-loop : tie.InvT-loop
-Inv-loop s row₀ n l₀ row l = (1 ≤ l) × (l ≤ n + 1) × Row row 8208 (lastLink (read s) l)
+Inv-loop s row₀ n l₀ row l = (1 ≤ l) × (l ≤ n + 1) × Row row slotPlaces (lastLink (read s) l)
 
 abbrev μ-loop : tie.MeasureT-loop
 μ-loop s row₀ n l₀ row l = n + 1 - l

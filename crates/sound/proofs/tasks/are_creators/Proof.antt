@@ -1,3 +1,4 @@
+-- `sound::tasks::are_creators` meets its contract: what `has_creator` answers, from handle h to h + 1 (`each-more`).
 use Prim.Native.Nat.{_+_, _-_, _≤_}
 use mathlib.Core.Path.{_≡_, sym}
 use native.Mathlib.Omega.{arith}

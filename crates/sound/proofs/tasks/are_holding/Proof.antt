@@ -1,3 +1,4 @@
+-- `sound::tasks::are_holding` meets its contract: what `is_holding` answers, from slot j to j + 1 (`each-more`).
 use Prim.Native.Nat.{_-_, _≤_}
 use mathlib.Core.Path.{_≡_, sym}
 use native.Mathlib.Omega.{arith}

@@ -1,3 +1,4 @@
+-- `sound::tasks::are_states` meets its contract: what `is_state` answers, from t to t + 1 (`each-more`), slots bounded as asked.
 use Prim.Native.Nat.{_+_, _-_, _≤_}
 use mathlib.Core.Path.{_≡_, sym}
 use native.Mathlib.Omega.{arith}

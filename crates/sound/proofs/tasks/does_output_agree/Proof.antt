@@ -1,3 +1,4 @@
+-- `sound::tasks::does_output_agree` meets its contract: three fields are read, and `is_busy` gives the rest (`simp` with Bools).
 use borrow.Author.Needs.{needs}
 use Rattle.rules.specs.Bools.{test-not, test-both, test-either, test-implies, test-eq}
 use Rattle.sound.proofs.tasks.does_output_agree.Statement.{statement}
@@ -19,7 +20,8 @@ is-busy-requires : tie.Need-is-busy-requires
 is-busy-requires c κs = search needs
 
 returns : tie.Need-returns
-returns c = rw (c .is-busy .ensures, c .before .of-object3 .ensures, c .before .before .of-object2 .ensures, c .before .before .before .of-object .ensures) (simp (test-not, test-both, test-either, test-implies, test-eq))
+returns c =
+    rw (c .is-busy .ensures, c .before .of-object3 .ensures, c .before .before .of-object2 .ensures, c .before .before .before .of-object .ensures) (simp (test-not, test-both, test-either, test-implies, test-eq))
 
 pub does-output-agree-spec : {M : Type 1} → statement M
 does-output-agree-spec =

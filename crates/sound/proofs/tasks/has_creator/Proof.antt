@@ -1,3 +1,4 @@
+-- `sound::tasks::has_creator` meets its contract: the kind is no task, or what `is_creator` answers (`simp` with Bools).
 use borrow.Author.Needs.{needs}
 use Rattle.rules.specs.Bools.{test-implies, test-eq}
 use Rattle.sound.proofs.tasks.has_creator.Statement.{statement}

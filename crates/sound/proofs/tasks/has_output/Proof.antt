@@ -1,3 +1,4 @@
+-- `sound::tasks::has_output` meets its contract: h and the one before are read, `is_output_of` does the rest (`simp` with Bools).
 use borrow.Author.Needs.{needs}
 use Rattle.rules.specs.Bools.{test-implies, test-both, test-eq}
 use Rattle.sound.proofs.tasks.has_output.Statement.{statement}
@@ -25,7 +26,8 @@ is-output-of-requires : tie.Need-is-output-of-requires
 is-output-of-requires c κs = search needs
 
 returns : tie.Need-returns
-returns c = rw (c .is-output-of .ensures, c .before .of-object5 .ensures, c .before .before .of-object4 .ensures, c .before .before .before .of-object3 .ensures, c .before .before .before .before .of-object2 .ensures, c .before .before .before .before .before .previous .ensures, c .before .before .before .before .before .before .of-object .ensures) (simp (test-implies, test-both, test-eq))
+returns c =
+    rw (c .is-output-of .ensures, c .before .of-object5 .ensures, c .before .before .of-object4 .ensures, c .before .before .before .of-object3 .ensures, c .before .before .before .before .of-object2 .ensures, c .before .before .before .before .before .previous .ensures, c .before .before .before .before .before .before .of-object .ensures) (simp (test-implies, test-both, test-eq))
 
 pub has-output-spec : {M : Type 1} → statement M
 has-output-spec =

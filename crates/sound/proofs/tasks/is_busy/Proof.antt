@@ -1,3 +1,4 @@
+-- `sound::tasks::is_busy` meets its contract: the mark at t is 1 exactly where the formula holds (`Shows`, `chosen`).
 use native.Mathlib.Omega.{arith}
 use borrow.Author.Needs.{needs}
 use Rattle.session.specs.Table.{read}

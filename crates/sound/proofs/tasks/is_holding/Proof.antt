@@ -1,3 +1,4 @@
+-- `sound::tasks::is_holding` meets its contract: state, mark and payload are read and compared (`simp` with Bools).
 use borrow.Author.Needs.{needs}
 use Rattle.rules.specs.Bools.{test-both, test-either, test-implies, test-eq, test-le}
 use Rattle.sound.proofs.tasks.is_holding.Statement.{statement}
@@ -25,7 +26,9 @@ of-slot-requires-2 : tie.Need-of-slot-requires-2
 of-slot-requires-2 c κs = search needs
 
 returns : tie.Need-returns
-returns c = rw (c .of-slot2 .ensures, c .before .of-slot .ensures, c .before .before .of-object .ensures) (simp (test-both, test-either, test-implies, test-eq, test-le))
+returns c =
+    rw (c .of-slot2 .ensures, c .before .of-slot .ensures, c .before .before .of-object .ensures)
+    (simp (test-both, test-either, test-implies, test-eq, test-le))
 
 pub is-holding-spec : {M : Type 1} → statement M
 is-holding-spec =

@@ -1,3 +1,4 @@
+-- `sound::tasks::is_output_of` meets its contract: type and kind of t + 1 are read, callees give the rest (`simp` with Bools).
 use borrow.Author.Needs.{needs}
 use Rattle.rules.specs.Bools.{test-both, test-eq}
 use Rattle.sound.proofs.tasks.is_output_of.Statement.{statement}
@@ -25,7 +26,8 @@ of-object-requires-2 : tie.Need-of-object-requires-2
 of-object-requires-2 c κs = search needs
 
 returns : tie.Need-returns
-returns c = rw (c .of-object2 .ensures, c .before .is-made .ensures, c .before .before .does-output-agree .ensures, c .before .before .before .of-object .ensures) (simp (test-both, test-eq))
+returns c =
+    rw (c .of-object2 .ensures, c .before .is-made .ensures, c .before .before .does-output-agree .ensures, c .before .before .before .of-object .ensures) (simp (test-both, test-eq))
 
 pub is-output-of-spec : {M : Type 1} → statement M
 is-output-of-spec =

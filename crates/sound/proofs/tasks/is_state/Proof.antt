@@ -1,3 +1,4 @@
+-- `sound::tasks::is_state` meets its contract: kind, state and count are read, callees judge the slots (`simp` with Bools).
 use borrow.Author.Needs.{needs}
 use Rattle.rules.specs.Bools.{test-not, test-implies, test-both, test-eq, test-le}
 use Rattle.sound.proofs.tasks.is_state.Statement.{statement}
@@ -19,7 +20,8 @@ of-object-requires-3 : tie.Need-of-object-requires-3
 of-object-requires-3 c κs = search needs
 
 returns : tie.Need-returns
-returns c = rw (c .of-object3 .ensures, c .before .are-holding .ensures, c .before .before .is-full .ensures, c .before .before .before .of-object2 .ensures, c .before .before .before .before .of-object .ensures) (simp (test-not, test-implies, test-both, test-eq, test-le))
+returns c =
+    rw (c .of-object3 .ensures, c .before .are-holding .ensures, c .before .before .is-full .ensures, c .before .before .before .of-object2 .ensures, c .before .before .before .before .of-object .ensures) (simp (test-not, test-implies, test-both, test-eq, test-le))
 
 pub is-state-spec : {M : Type 1} → statement M
 is-state-spec =

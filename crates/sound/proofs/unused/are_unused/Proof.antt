@@ -1,7 +1,9 @@
+-- `sound::unused::are_unused` meets its contract: what `is_unused` answers, from handle h to h + 1 (`each-more`).
 use Prim.Native.Nat.{_-_, _≤_}
 use mathlib.Core.Path.{_≡_, sym}
 use native.Mathlib.Omega.{arith}
 use borrow.Author.Needs.{needs}
+use Rattle.session.specs.Names.{objectPlaces}
 use Rattle.session.specs.Table.{read}
 use Rattle.rules.specs.Formula.{test, Formula.each}
 use Rattle.sound.specs.Bodies.{unusedObject}
@@ -10,10 +12,10 @@ use Rattle.sound.proofs.unused.are_unused.Statement.{statement}
 use Rattle.sound.proofs.unused.are_unused.Tie as tie
 
 abbrev Inv-loop : tie.InvT-loop
-Inv-loop s ok₀ h₀ ok h = (h ≤ 513) × (ok ≡ test (each h (unusedObject (read s))))
+Inv-loop s ok₀ h₀ ok h = (h ≤ objectPlaces) × (ok ≡ test (each h (unusedObject (read s))))
 
 abbrev μ-loop : tie.MeasureT-loop
-μ-loop s ok₀ h₀ ok h = 513 - h
+μ-loop s ok₀ h₀ ok h = objectPlaces - h
 
 loop-holds : tie.Need-loop-holds Inv-loop μ-loop
 loop-holds c = (omega arith, sym (each-none _))
@@ -35,7 +37,7 @@ loop-again c =
 returns : tie.Need-returns Inv-loop μ-loop
 returns c =
     let l = c .before .loop in
-    let d : l .h ≡ 513 = omega arith in
+    let d : l .h ≡ objectPlaces = omega arith in
     rw (← d) (l .inv .1)
 
 pub are-unused-spec : {M : Type 1} → statement M

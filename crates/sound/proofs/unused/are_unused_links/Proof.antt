@@ -1,7 +1,9 @@
+-- `sound::unused::are_unused_links` meets its contract: what `is_unused_link` answers, from link l to l + 1 (`each-more`).
 use Prim.Native.Nat.{_-_, _≤_}
 use mathlib.Core.Path.{_≡_, sym}
 use native.Mathlib.Omega.{arith}
 use borrow.Author.Needs.{needs}
+use Rattle.session.specs.Names.{linkPlaces}
 use Rattle.session.specs.Table.{read}
 use Rattle.rules.specs.Formula.{test, Formula.each}
 use Rattle.sound.specs.Bodies.{unusedLink}
@@ -10,10 +12,10 @@ use Rattle.sound.proofs.unused.are_unused_links.Statement.{statement}
 use Rattle.sound.proofs.unused.are_unused_links.Tie as tie
 
 abbrev Inv-loop : tie.InvT-loop
-Inv-loop s ok₀ l₀ ok l = (l ≤ 2049) × (ok ≡ test (each l (unusedLink (read s))))
+Inv-loop s ok₀ l₀ ok l = (l ≤ linkPlaces) × (ok ≡ test (each l (unusedLink (read s))))
 
 abbrev μ-loop : tie.MeasureT-loop
-μ-loop s ok₀ l₀ ok l = 2049 - l
+μ-loop s ok₀ l₀ ok l = linkPlaces - l
 
 loop-holds : tie.Need-loop-holds Inv-loop μ-loop
 loop-holds c = (omega arith, sym (each-none _))
@@ -35,7 +37,7 @@ loop-again c =
 returns : tie.Need-returns Inv-loop μ-loop
 returns c =
     let l = c .before .loop in
-    let d : l .l ≡ 2049 = omega arith in
+    let d : l .l ≡ linkPlaces = omega arith in
     rw (← d) (l .inv .1)
 
 pub are-unused-links-spec : {M : Type 1} → statement M

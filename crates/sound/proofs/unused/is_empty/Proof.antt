@@ -1,3 +1,4 @@
+-- `sound::unused::is_empty` meets its contract: the kind compared with 0, and the answers of five callees (`simp` with Bools).
 use borrow.Author.Needs.{needs}
 use Rattle.rules.specs.Bools.{test-both, test-eq}
 use Rattle.sound.proofs.unused.is_empty.Statement.{statement}
@@ -22,7 +23,8 @@ task-part-requires : tie.Need-task-part-requires
 task-part-requires c κs = search needs
 
 returns : tie.Need-returns
-returns c = rw (c .task-part .ensures, c .before .template-part .ensures, c .before .before .of-object .ensures, c .before .before .before .are-no-slots .ensures, c .before .before .before .before .block-part .ensures, c .before .before .before .before .before .event-part .ensures) (simp (test-both, test-eq))
+returns c =
+    rw (c .task-part .ensures, c .before .template-part .ensures, c .before .before .of-object .ensures, c .before .before .before .are-no-slots .ensures, c .before .before .before .before .block-part .ensures, c .before .before .before .before .before .event-part .ensures) (simp (test-both, test-eq))
 
 pub is-empty-spec : {M : Type 1} → statement M
 is-empty-spec =

@@ -1,3 +1,4 @@
+-- `sound::unused::is_no_link` meets its contract: the four fields are read and compared with 0 (`simp` with Bools).
 use borrow.Author.Needs.{needs}
 use Rattle.rules.specs.Bools.{test-both, test-eq}
 use Rattle.sound.proofs.unused.is_no_link.Statement.{statement}
@@ -16,7 +17,8 @@ of-link-requires-4 : tie.Need-of-link-requires-4
 of-link-requires-4 c κs = search needs
 
 returns : tie.Need-returns
-returns c = rw (c .of-link4 .ensures, c .before .of-link3 .ensures, c .before .before .of-link2 .ensures, c .before .before .before .of-link .ensures) (simp (test-both, test-eq))
+returns c =
+    rw (c .of-link4 .ensures, c .before .of-link3 .ensures, c .before .before .of-link2 .ensures, c .before .before .before .of-link .ensures) (simp (test-both, test-eq))
 
 pub is-no-link-spec : {M : Type 1} → statement M
 is-no-link-spec =

@@ -1,3 +1,4 @@
+-- `sound::unused::is_no_slot` meets its contract: mode, mark and payload are read and compared with 0 (`simp` with Bools).
 use borrow.Author.Needs.{needs}
 use Rattle.rules.specs.Bools.{test-both, test-eq}
 use Rattle.sound.proofs.unused.is_no_slot.Statement.{statement}
@@ -13,7 +14,8 @@ of-slot-requires-3 : tie.Need-of-slot-requires-3
 of-slot-requires-3 c κs = search needs
 
 returns : tie.Need-returns
-returns c = rw (c .of-slot3 .ensures, c .before .of-slot2 .ensures, c .before .before .of-slot .ensures) (simp (test-both, test-eq))
+returns c =
+    rw (c .of-slot3 .ensures, c .before .of-slot2 .ensures, c .before .before .of-slot .ensures) (simp (test-both, test-eq))
 
 pub is-no-slot-spec : {M : Type 1} → statement M
 is-no-slot-spec =

@@ -1,3 +1,4 @@
+-- `sound::unused::is_rest_unused` meets its contract: the answers of the three callees, joined by `test-both`.
 use borrow.Author.Needs.{needs}
 use Rattle.rules.specs.Bools.{test-both}
 use Rattle.sound.proofs.unused.is_rest_unused.Statement.{statement}
@@ -13,7 +14,8 @@ are-unused-links-requires : tie.Need-are-unused-links-requires
 are-unused-links-requires c κs = search needs
 
 returns : tie.Need-returns
-returns c = rw (c .are-unused-links .ensures, c .before .are-unused .ensures, c .before .before .is-no-link .ensures) (simp test-both)
+returns c =
+    rw (c .are-unused-links .ensures, c .before .are-unused .ensures, c .before .before .is-no-link .ensures) (simp test-both)
 
 pub is-rest-unused-spec : {M : Type 1} → statement M
 is-rest-unused-spec =

@@ -1,3 +1,4 @@
+-- `sound::unused::is_unused` meets its contract: up to the count it passes (`passes`); past it by `is_empty` (`test-then`).
 use Prim.Native.Nat.{suc, _≤_}
 use mathlib.Core.Path.{sym, _∙_}
 use native.Mathlib.Omega.{arith}

@@ -1,3 +1,4 @@
+-- `sound::unused::is_unused_link` meets its contract: l is not past the count, or what `is_no_link` answers (`simp` with Bools).
 use borrow.Author.Needs.{needs}
 use Rattle.rules.specs.Bools.{test-implies, test-lt}
 use Rattle.sound.proofs.unused.is_unused_link.Statement.{statement}

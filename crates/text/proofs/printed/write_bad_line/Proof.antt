@@ -14,7 +14,8 @@ write-bytes-requires : tie.Need-write-bytes-requires
 write-bytes-requires c κs = let a = c .before .before .before .args in omega (arith, line-length (a .line))
 
 write-requires : tie.Need-write-requires
-write-requires c κs = let a = c .before .before .before .before .before .before .before .args in omega (arith, line-length (a .line))
+write-requires c κs =
+    let a = c .before .before .before .before .before .before .before .args in omega (arith, line-length (a .line))
 
 slice-aggregate-write-bytes-2 : tie.Need-slice-aggregate-write-bytes-2
 slice-aggregate-write-bytes-2 c = search needs
@@ -38,7 +39,8 @@ returns c =
     let start = head .before .before .before .before in
     let long = line-length (start .args .line) in
     put-then (omega arith)
-    (put-then (omega arith) (head .write-bytes .ensures) (record { place = number .write .ensures .0; written = number .write .ensures .1 }))
+    (put-then (omega arith) (head .write-bytes .ensures)
+    (record { place = number .write .ensures .0; written = number .write .ensures .1 }))
     (end .write-bytes2 .ensures)
 
 pub write-bad-line-spec : {M : Type 1} → statement M

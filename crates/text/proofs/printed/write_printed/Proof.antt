@@ -21,13 +21,15 @@ module _ (typed out : List ℕ) (short : length typed ≤ most) where
   told : (t : Typed) → answer typed out ≡ t → Says typed out t
   told t e = rw e at (says typed out)
 
-  sheet-put : (n : ℕ) (after : List ℕ) → answer typed out ≡ Sheet n → after ≡ memory typed out → Put out 0 (printedOf typed) n after
+  sheet-put : (n : ℕ) (after : List ℕ) → answer typed out ≡ Sheet n → after ≡ memory typed out
+      → Put out 0 (printedOf typed) n after
   sheet-put n after e m =
       let s = told (Sheet n) e in
       rw (printed-sheet typed short (s .0)) (record { place = s .1 ∙ sym (zero-add _); written = m ∙ s .2 })
 
   line-printed : (line : ℕ) → answer typed out ≡ BadLine line → printedOf typed ≡ lineText line
-  line-printed line e = let s = told (BadLine line) e in printed-line typed short (omega (arith, s .0, s .1)) ∙ ap lineText (sym (s .1))
+  line-printed line e =
+      let s = told (BadLine line) e in printed-line typed short (omega (arith, s .0, s .1)) ∙ ap lineText (sym (s .1))
 
   line-memory : (line : ℕ) (after : List ℕ) → answer typed out ≡ BadLine line → after ≡ memory typed out → after ≡ out
   line-memory line after e m = m ∙ told (BadLine line) e .2

@@ -1,0 +1,3 @@
+pub mod TestLaws
+pub mod Gone
+pub mod Holds

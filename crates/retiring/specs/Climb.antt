@@ -1,0 +1,346 @@
+-- Who can be done once a task has ended or was destroyed: the task itself, and those above it that are reached over tasks that
+-- are not live. Of any other the output event fired when it should have.
+use Prim.Native.Nat.{ℕ, zero, suc, _+_, _-_, _≤_, _<_}
+use mathlib.Core.Path.{_≡_, refl, sym, subst, _∙_}
+use mathlib.Core.List.{List}
+use mathlib.Core.Logic.{_⊎_, inl, inr}
+use native.Mathlib.Omega.{arith}
+use native.Mathlib.Decide.{decLt}
+use lib.ListN.{length, getD, set, replicate, getD-replicate, length-replicate, List·getD-eq-default}
+use lib.Seq.{getD-set-same, getD-set-other}
+use Rattle.session.specs.Table.{Session, put, change}
+use Rattle.session.specs.declared.Field.the-variants.{Objects, Kind, TaskState, TaskCreator, TaskFinish, TaskOutput, EventState}
+use Rattle.session.specs.declared.Field.the-variants.{EventType}
+use Rattle.session.specs.Names.{event, running, ended, eventOpen, fired, destroyedFired, destroyedUnfired}
+use Rattle.session.specs.Names.{mostObjects, objectPlaces}
+use Rattle.rules.specs.Formula.{holds, choose, Formula._≐_, Formula._≼_, Formula._and_}
+use Rattle.rules.specs.FormulaLaws.{Case, decide, choose-yes, choose-no, Case.it-does, Case.it-does-not, choose-case}
+use Rattle.rules.specs.Reading.{made, under, busy}
+use Rattle.rules.specs.Sound.{outputs}
+use Rattle.rules.specs.Effects.{finishes, letGo, buryDoomed, fire, fireOne, fireFinished, destroyEvent}
+use Rattle.laws.specs.Places.{Places, places, put-there, Places.one, Places.two}
+use Rattle.laws.specs.Under.{under-enough, or-map}
+use Rattle.retiring.specs.TidyUnderWay.{Tidy}
+use Rattle.retiring.specs.Finish.{Marks, waits, waits-of, one-fires, fires-nothing}
+use Rattle.retiring.specs.RetiringParts.{outputDestroyed, outputFired, ending}
+
+-- a is h, or stands above it by the creators given
+abbrev pub Reached : (ℕ → ℕ) → ℕ → ℕ → Type 0
+Reached c h a = (1 ≤ h) × ((h ≡ a) ⊎ holds (under c h h a))
+
+-- no output event finishes but those of h, which is at most the last handle, and of the tasks above it
+pub record OnlyAbove (s : Session) (h : ℕ) : Type 0 where
+  pub known : h ≤ s Objects 0
+  pub reached : (e : ℕ) → holds (finishes s e) → Reached (s TaskCreator) h (e - 1)
+
+-- what finishes and is reached from t is reached from h too, which is at most the last handle
+pub record Narrowed (s : Session) (t h : ℕ) : Type 0 where
+  pub known : h ≤ s Objects 0
+  pub reached : (e : ℕ) → holds (finishes s e) → Reached (s TaskCreator) t (e - 1) → Reached (s TaskCreator) h (e - 1)
+
+-- a climb stops where it stands, or past the last task
+pub narrowed-here : (s : Session) (t : ℕ) → t ≤ s Objects 0 → Narrowed s t t
+narrowed-here s t l = record { known = l; reached = λ e f r. r }
+
+pub narrowed-none : (s : Session) (t : ℕ) → t ≡ 0 → Narrowed s t 0
+narrowed-none s t z = record { known = omega arith; reached = λ e f r. let m = r .0 in absurd (omega arith) }
+
+pub only-narrowed : (s : Session) (t h : ℕ) → OnlyAbove s t → Narrowed s t h → OnlyAbove s h
+only-narrowed s t h o n = record { known = n .known; reached = λ e f. n .reached e f (o .reached e f) }
+
+-- A climb has come to h: what is marked finishes, and what finishes is marked or reached from h. found is 0 where nothing is
+-- marked, the event where it is one, and a number past every handle where there may be more.
+pub record Climbed (s : Session) (m : List ℕ) (found h : ℕ) : Type 0 where
+  pub known : h ≤ s Objects 0
+  pub sure : (e : ℕ) → getD m e 0 ≡ 1 → holds (finishes s e)
+  pub reached : (e : ℕ) → holds (finishes s e) → (getD m e 0 ≡ 1) ⊎ Reached (s TaskCreator) h (e - 1)
+  pub alone : found ≤ mostObjects → (e : ℕ) → getD m e 0 ≡ 1 → e ≡ found
+  pub there : 1 ≤ found → found ≤ mostObjects → getD m found 0 ≡ 1
+
+-- an event is made
+pub event-made : (s : Session) → Tidy s → (e : ℕ) → s Kind e ≡ event → holds (made s e)
+event-made s x e k = (some (decLt 0 e), low (decLt (s Objects 0) e))
+  where
+    some : Dec (0 < e) → 1 ≤ e
+    some (yes l) = l
+    some (no n) = let i : e ≡ 0 = omega arith in let z : s Kind e ≡ 0 = rw i (x .frame .null) in absurd (omega arith)
+
+    low : Dec (s Objects 0 < e) → e ≤ s Objects 0
+    low (yes l) = let z = x .frame .unmade e l in absurd (omega arith)
+    low (no n) = omega arith
+
+-- the creator of h, or 0 if it is live
+unfoldable pub doneCreator : Session → ℕ → ℕ
+doneCreator s h = choose (s TaskState (s TaskCreator h) ≼ running) 0 (s TaskCreator h)
+
+pub creator-live : (s : Session) (h : ℕ) → s TaskState (s TaskCreator h) ≤ running → doneCreator s h ≡ 0
+unfolding doneCreator
+creator-live s h l = choose-yes (s TaskState (s TaskCreator h) ≼ running) 0 (s TaskCreator h) l
+
+pub creator-done : (s : Session) (h : ℕ) → (s TaskState (s TaskCreator h) ≤ running → ⊥) → doneCreator s h ≡ s TaskCreator h
+unfolding doneCreator
+creator-done s h n = choose-no (s TaskState (s TaskCreator h) ≼ running) 0 (s TaskCreator h) n
+
+-- handle 0 stands below nobody
+pub none-above : (s : Session) → OnlyAbove s 0 → fireFinished s ≡ s
+none-above s o = fires-nothing s (λ e f. let z = o .reached e f .0 in omega arith)
+
+-- who stands above h is its creator or stands above that one
+above-creator : (c : ℕ → ℕ) (n : ℕ) → ((h : ℕ) → h ≤ n → 1 ≤ c h → c h < h) → (h a : ℕ) → h ≤ n → holds (under c h h a)
+    → Reached c (c h) a
+unfolding under
+above-creator c n falls zero a l x = absurd x
+above-creator c n falls (suc k) a l x =
+    let f : c (suc k) < suc k = falls (suc k) l (x .0) in
+    (x .0, or-map (under-enough c n falls k (c (suc k)) (c (suc k)) a (omega arith) (omega arith)) (x .1))
+
+module _ (s : Session) (x : Tidy s) (h : ℕ) (l : h ≤ s Objects 0) where
+  abbrev c : ℕ → ℕ
+  c = s TaskCreator
+
+  pub creator-made : c h ≤ s Objects 0
+  creator-made = go (decLt 0 (c h))
+    where
+      go : Dec (0 < c h) → c h ≤ s Objects 0
+      go (yes p) = let f = x .frame .falls h l p in omega arith
+      go (no n) = omega arith
+
+  pub done-lower : 1 ≤ h → doneCreator s h < h
+  done-lower m = go (decide (s TaskState (c h) ≼ running)) (decLt 0 (c h))
+    where
+      go : Case (s TaskState (c h) ≼ running) → Dec (0 < c h) → doneCreator s h < h
+      go (it-does live) d = rw (creator-live s h live) m
+      go (it-does-not n) (yes p) = rw (creator-done s h n) (x .frame .falls h l p)
+      go (it-does-not n) (no q) = rw (creator-done s h n) (omega arith)
+
+  -- nothing that finishes is a live task or stands above one
+  live-stops : (a : ℕ) → s TaskState (c h) ≤ running → s TaskState a ≡ ended → (holds (busy s a) → ⊥) → Reached c (c h) a → ⊥
+  live-stops a live e idle y = go (y .1)
+    where
+      go : (c h ≡ a) ⊎ holds (under c (c h) (c h) a) → ⊥
+      go (inl q) = let z : s TaskState (c h) ≡ ended = rw q e in omega arith
+      go (inr u) = idle (c h, (let b = creator-made in omega arith), ((x .frame .makers h l (y .0), live), u))
+
+  -- what finishes and is reached from h is the event of h, of which something else may be known, or is reached from one step up
+  pub step : {B : Type 0} (e : ℕ) → holds (finishes s e) → Reached c h (e - 1) → (e ≡ h + 1 → B)
+      → B ⊎ Reached c (doneCreator s h) (e - 1)
+  step {B} e f r own = go (r .1)
+    where
+      up : Reached c (c h) (e - 1) → Case (s TaskState (c h) ≼ running) → Reached c (doneCreator s h) (e - 1)
+      up y (it-does live) = absurd (live-stops (e - 1) live (f .1 .1 .1 .1 .0) (f .1 .1 .1 .1 .1) y)
+      up y (it-does-not d) = rw (creator-done s h d) y
+
+      go : (h ≡ e - 1) ⊎ holds (under c h h (e - 1)) → B ⊎ Reached c (doneCreator s h) (e - 1)
+      go (inl q) = let m = r .0 in inl (own (omega arith))
+      go (inr u) = inr (up (above-creator c (s Objects 0) (x .frame .falls) h (e - 1) l u) (decide (s TaskState (c h) ≼ running)))
+
+  -- what is narrowed to from one step up is narrowed to from h, where the event of h does not wait
+  pub climbs : (r u : ℕ) → u ≡ doneCreator s h → (holds (waits s h) → ⊥) → Narrowed s u r → Narrowed s h r
+  climbs r u e n o = record {
+    known = o .known;
+    reached = λ k f q. o .reached k f (go k (step k f q (λ i. n (waits-of s h (subst (λ (j : ℕ). holds (finishes s j)) i f)))));
+  }
+    where
+      go : (k : ℕ) → ⊥ ⊎ Reached c (doneCreator s h) (k - 1) → Reached c u (k - 1)
+      go k (inl q) = absurd q
+      go k (inr q) = rw e q
+
+  module _ (m : List ℕ) (found : ℕ) (some : 1 ≤ h) (y : Climbed s m found h) where
+    -- one step up where the event of h does not finish
+    pub climbed-past : (holds (finishes s (h + 1)) → ⊥) → Climbed s m found (doneCreator s h)
+    climbed-past n = record {
+      known = let d = done-lower some in let k = y .known in omega arith;
+      sure = y .sure;
+      reached = λ e f. go e f (y .reached e f);
+      alone = y .alone;
+      there = y .there;
+    }
+      where
+        go : (e : ℕ) → holds (finishes s e) → (getD m e 0 ≡ 1) ⊎ Reached c h (e - 1)
+            → (getD m e 0 ≡ 1) ⊎ Reached c (doneCreator s h) (e - 1)
+        go e f (inl q) = inl q
+        go e f (inr r) = step e f r (λ q. absurd (n (subst (λ (i : ℕ). holds (finishes s i)) q f)))
+
+    -- one step up where it does, and is marked
+    pub climbed-mark : holds (finishes s (h + 1)) → length m ≡ objectPlaces → (v : ℕ)
+        → ((found ≡ 0) × (v ≡ h + 1)) ⊎ (v ≡ objectPlaces) → Climbed s (set m (h + 1) 1) v (doneCreator s h)
+    climbed-mark f len v w = record {
+      known = let d = done-lower some in let k = y .known in omega arith;
+      sure = λ e q. sure e q (places (h + 1) e);
+      reached = λ e g. go e g (places (h + 1) e) (y .reached e g);
+      alone = λ few e q. alone few e q (places (h + 1) e) w;
+      there = λ one few. there few w;
+    }
+      where
+        here : getD (set m (h + 1) 1) (h + 1) 0 ≡ 1
+        here = getD-set-same m (h + 1) 1 0 (let o = event-made s x (h + 1) (f .0) .1 in omega (arith, o, len, x .frame .few))
+
+        before : (e : ℕ) → (h + 1 ≡ e → ⊥) → getD (set m (h + 1) 1) e 0 ≡ getD m e 0
+        before e n = getD-set-other m (h + 1) e 1 0 (λ q. n (sym q))
+
+        sure : (e : ℕ) → getD (set m (h + 1) 1) e 0 ≡ 1 → Places (h + 1) e → holds (finishes s e)
+        sure e q (one p) = subst (λ (i : ℕ). holds (finishes s i)) p f
+        sure e q (two n) = y .sure e (sym (before e n) ∙ q)
+
+        go : (e : ℕ) → holds (finishes s e) → Places (h + 1) e → (getD m e 0 ≡ 1) ⊎ Reached c h (e - 1)
+            → (getD (set m (h + 1) 1) e 0 ≡ 1) ⊎ Reached c (doneCreator s h) (e - 1)
+        go e g (one p) r = inl (subst (λ (i : ℕ). getD (set m (h + 1) 1) i 0 ≡ 1) p here)
+        go e g (two n) (inl q) = inl (before e n ∙ q)
+        go e g (two n) (inr r) = step e g r (λ q. absurd (n (sym q)))
+
+        alone : v ≤ mostObjects → (e : ℕ) → getD (set m (h + 1) 1) e 0 ≡ 1 → Places (h + 1) e
+            → ((found ≡ 0) × (v ≡ h + 1)) ⊎ (v ≡ objectPlaces) → e ≡ v
+        alone few e q p (inr z) = absurd (omega arith)
+        alone few e q (one p) (inl z) = sym p ∙ sym (z .1)
+        alone few e q (two n) (inl z) =
+            let k : getD m e 0 ≡ 1 = sym (before e n) ∙ q in
+            let o = event-made s x e (y .sure e k .0) .0 in
+            absurd (omega (arith, o, z .0, y .alone (omega (arith, z .0)) e k))
+
+        there : v ≤ mostObjects → ((found ≡ 0) × (v ≡ h + 1)) ⊎ (v ≡ objectPlaces) → getD (set m (h + 1) 1) v 0 ≡ 1
+        there few (inl z) = rw (z .1) here
+        there few (inr z) = absurd (omega arith)
+
+-- before the climb nothing is marked
+pub climbed-none : (s : Session) (t : ℕ) → OnlyAbove s t → Climbed s (replicate objectPlaces 0) 0 t
+climbed-none s t o = record {
+  known = o .known;
+  sure = λ e q. absurd (none e q (decLt e objectPlaces));
+  reached = λ e f. inr (o .reached e f);
+  alone = λ few e q. absurd (none e q (decLt e objectPlaces));
+  there = λ one few. absurd (never one);
+}
+  where
+    never : 1 ≤ 0 → ⊥
+    never l = omega arith
+
+    zeros : List ℕ
+    zeros = replicate objectPlaces 0
+
+    long : length zeros ≡ objectPlaces
+    long = length-replicate {A = ℕ} objectPlaces 0
+
+    none : (e : ℕ) → getD zeros e 0 ≡ 1 → Dec (e < objectPlaces) → ⊥
+    none e q (yes l) = let z : getD zeros e 0 ≡ 0 = getD-replicate objectPlaces e 0 0 l in omega arith
+    none e q (no n) = let z : getD zeros e 0 ≡ 0 = List·getD-eq-default zeros 0 {n = e} (omega (arith, long)) in omega arith
+
+module _ (s : Session) (m : List ℕ) (found : ℕ) (y : Climbed s m found 0) where
+  -- after it everything that finishes is
+  pub climbed-all : Marks s m
+  climbed-all = record { sure = y .sure; all = λ e f. go e (y .reached e f) }
+    where
+      go : (e : ℕ) → (getD m e 0 ≡ 1) ⊎ Reached (s TaskCreator) 0 (e - 1) → getD m e 0 ≡ 1
+      go e (inl q) = q
+      go e (inr r) = let z = r .0 in absurd (omega arith)
+
+  -- nothing fires where nothing was found
+  pub found-none : Tidy s → found ≡ 0 → fireFinished s ≡ s
+  found-none x z =
+      fires-nothing s (λ e f. let o = event-made s x e (f .0) .0 in omega
+      (arith, o, z, y .alone (omega arith) e (climbed-all .all e f)))
+
+  -- one event where one was found
+  pub found-one : (found ≡ 0 → ⊥) → found ≤ mostObjects → fireOne s found 0 ≡ fireFinished s
+  found-one n few = one-fires s found (y .sure found (y .there (omega arith) few)) (λ e f. y .alone few e (climbed-all .all e f))
+
+-- of what `finishes` reads, r is s but for the states of task t and of its output event
+pub record OnlyOwn (s r : Session) (t : ℕ) : Type 0 where
+  pub count : r Objects 0 ≡ s Objects 0
+  pub kinds : (h : ℕ) → r Kind h ≡ s Kind h
+  pub types : (e : ℕ) → r EventType e ≡ s EventType e
+  pub creators : r TaskCreator ≡ s TaskCreator
+  pub tasks : (u : ℕ) → (t ≡ u → ⊥) → r TaskState u ≡ s TaskState u
+  pub events : (e : ℕ) → (t + 1 ≡ e → ⊥) → r EventState e ≡ s EventState e
+
+module _ (s r : Session) (t : ℕ) (x : Tidy s) (o : holds (outputs s)) (own : OnlyOwn s r t) where
+  -- who does not stand above t is as busy as before
+  idle-before : (a : ℕ) → (holds (under (s TaskCreator) t t a) → ⊥) → (holds (busy r a) → ⊥) → holds (busy s a) → ⊥
+  idle-before a n idle b = go (places t (b .0))
+    where
+      go : Places t (b .0) → ⊥
+      go (one q) = n (subst (λ (h : ℕ). holds (under (s TaskCreator) h h a)) (sym q) (b .2 .1))
+      go (two m) =
+          idle (
+            b .0,
+            rw (own .count) (b .1),
+            ((own .kinds (b .0) ∙ b .2 .0 .0, rw (own .tasks (b .0) m) (b .2 .0 .1)), rw (own .creators) (b .2 .1)),
+          )
+
+  -- so its output event had fired
+  fired-before : (e : ℕ) → (t ≡ e - 1 → ⊥) → (holds (under (s TaskCreator) t t (e - 1)) → ⊥) → holds (finishes r e)
+      → s EventState e ≡ fired
+  fired-before e n u f =
+      let k : s Kind e ≡ event = sym (own .kinds e) ∙ f .0 in
+      let lo = event-made s x e k .0 in
+      let hi = event-made s x e k .1 in
+      let of = o e (omega arith) .1 (k, sym (own .types e) ∙ f .1 .0) in
+      let out = o (e - 1) (omega arith) .0 of in
+      let back : e - 1 + 1 ≡ e = omega arith in
+      rw back at (out .1 .1 .1 .0 .1
+      (sym (own .tasks (e - 1) n) ∙ f .1 .1 .1 .1 .0, inr (idle-before (e - 1) u (f .1 .1 .1 .1 .1))))
+
+  pub only-above : holds (made s t) → OnlyAbove r t
+  only-above m =
+      record {
+        known = rw (own .count) (m .1);
+        reached = λ e f.
+            (m .0, go e f (places t (e - 1)) (decide (under (s TaskCreator) t t (e - 1))));
+      }
+    where
+      go : (e : ℕ) → holds (finishes r e) → Places t (e - 1) → Case (under (s TaskCreator) t t (e - 1))
+          → (t ≡ e - 1) ⊎ holds (under (r TaskCreator) t t (e - 1))
+      go e f (one q) d = inl q
+      go e f (two n) (it-does u) = inr (rw (own .creators) u)
+      go e f (two n) (it-does-not u) =
+          let was : s EventState e ≡ fired = fired-before e n u f in
+          let stays : r EventState e ≡ s EventState e = own .events e (λ q. n (omega arith)) in
+          let unfired : r EventState e ≡ eventOpen = f .1 .1 .0 in
+          absurd (omega arith)
+
+-- what an end and the destroying of a task write before that
+module _ (s : Session) (t : ℕ) where
+  pub own-state : (v : ℕ) → OnlyOwn s (put s TaskState t v) t
+  unfolding put
+  own-state v =
+      record { count = refl; kinds = λ h. refl; types = λ e. refl; creators = refl; tasks = λ u n. put-there s TaskState t u v n; events = λ e n. refl }
+
+  pub own-ending : OnlyOwn s (ending s t) t
+  unfolding put letGo buryDoomed change
+  own-ending =
+      record { count = refl; kinds = λ h. refl; types = λ e. refl; creators = refl; tasks = λ u n. put-there s TaskState t u ended n; events = λ e n. refl }
+
+  module _ (r : Session) (own : OnlyOwn s r t) where
+    own-fireOne : (b : ℕ) → OnlyOwn s (fireOne r (t + 1) b) t
+    unfolding fireOne fire change
+    own-fireOne b = record {
+      count = own .count;
+      kinds = own .kinds;
+      types = own .types;
+      creators = own .creators;
+      tasks = own .tasks;
+      events = λ e n. choose-no (e ≐ t + 1) fired (r EventState e) (λ q. n (sym q)) ∙ own .events e n;
+    }
+
+    own-destroyEvent : OnlyOwn s (destroyEvent r (t + 1)) t
+    unfolding destroyEvent put change
+    own-destroyEvent = record {
+      count = own .count;
+      kinds = own .kinds;
+      types = own .types;
+      creators = own .creators;
+      tasks = own .tasks;
+      events =
+          λ e n. put-there r EventState (t + 1) e (choose (r EventState (t + 1) ≐ fired) destroyedFired destroyedUnfired) n
+          ∙ own .events e n;
+    }
+
+    pub own-fired : (b : ℕ) → OnlyOwn s (outputFired r t b) t
+    unfolding outputFired
+    own-fired b =
+        choose-case (λ q. OnlyOwn s q t) (r TaskOutput t ≐ 1 and r TaskFinish t ≐ 0) (fireOne r (t + 1) b) r (λ _. own-fireOne b)
+        (λ _. own)
+
+    pub own-destroyed : OnlyOwn s (outputDestroyed r t) t
+    unfolding outputDestroyed
+    own-destroyed =
+        choose-case (λ q. OnlyOwn s q t) (r TaskOutput t ≐ 1) (destroyEvent r (t + 1)) r (λ _. own-destroyEvent) (λ _. own)

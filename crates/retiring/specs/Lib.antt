@@ -1,0 +1,6 @@
+pub mod Cutting
+pub mod TidyUnderWay
+pub mod Finish
+pub mod RetiringParts
+pub mod Climb
+pub mod Alone

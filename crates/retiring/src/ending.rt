@@ -1,0 +1,39 @@
+// Ending a task.
+use crate::finishing::fire_finished;
+use session::Field;
+use session::names;
+ghost use Prim.Native.Nat.{_+_, _≤_};
+ghost use lib.ListN.{length};
+ghost use Rattle.session.specs.Names.{mostObjects};
+ghost use Rattle.session.specs.Table.{Wrote, read, words};
+ghost use Rattle.rules.specs.Formula.{holds};
+ghost use Rattle.rules.specs.Sound.{sound};
+ghost use Rattle.rules.specs.Checks.{endChecks};
+ghost use Rattle.rules.specs.Effects.{end};
+ghost use Rattle.laws.specs.Met.{met};
+ghost use Rattle.retiring.specs.TidyUnderWay.{Tidy};
+ghost use Rattle.retiring.specs.RetiringParts.{outputFired, OutputLow};
+
+// Fires the output event of task t with block b, if it has one and is plain. Internal: callers have shown the length, the
+// handles and a tidy session.
+fn fire_output(s: &mut [u64], t: u64, b: u64)
+    requires { ⌜ (words ≤ length (now s)) × (t ≤ mostObjects) × Tidy (read (now s)) × OutputLow (read (now s)) t ⌝ }
+    ensures { λ r. ⌜ Wrote (now (s .entry)) (now (s .exit)) (outputFired (read (now (s .entry))) t b) ⌝ }
+{
+    if session::get(s, Field::TaskOutput, t as usize) == 1 {
+        if session::get(s, Field::TaskFinish, t as usize) == 0 {
+            effects::fire_one(s, t + 1, b);
+        }
+    }
+}
+
+// 12 end (task, block or 0). Internal: callers have shown the length, a sound session and the checks.
+pub fn end(s: &mut [u64], t: u64, b: u64)
+    requires { ⌜ (words ≤ length (now s)) × holds (sound (read (now s))) × met (endChecks (read (now s)) t b) ⌝ }
+    ensures { λ r. ⌜ Wrote (now (s .entry)) (now (s .exit)) (end (read (now (s .entry))) t b) ⌝ }
+{
+    holding::let_go_all(s, t);
+    session::set(s, Field::TaskState, t as usize, names::ENDED);
+    fire_output(s, t, b);
+    fire_finished(s, t);
+}

@@ -1,0 +1,54 @@
+// What the rules say of an event's type, by its code: one function a column of EventTypes.antt. Elsewhere only latches (their tally) and
+// output events (their task) are told from others.
+ghost use mathlib.Core.Path.{_≡_};
+ghost use Rattle.rules.specs.Formula.{test};
+ghost use Rattle.rules.specs.EventTypes.{isEventType, isOfferedType, isUserType, goneWhenFired, refusesFurther, hasTypeSlot};
+use session::names;
+
+pub fn is_event_type(ty: u64) -> bool
+    ensures { λ r. ⌜ r ≡ test (isEventType ty) ⌝ }
+{
+    (ty == names::ONCE)
+        | ((ty == names::IDEMPOTENT)
+            | ((ty == names::STICKY) | ((ty == names::LATCH) | (ty == names::OUTPUT))))
+}
+
+// Whether operation 3 makes it.
+pub fn is_offered_type(ty: u64) -> bool
+    ensures { λ r. ⌜ r ≡ test (isOfferedType ty) ⌝ }
+{
+    (ty == names::ONCE)
+        | ((ty == names::IDEMPOTENT) | ((ty == names::STICKY) | (ty == names::LATCH)))
+}
+
+// Whether a call may name it.
+pub fn is_user_type(ty: u64) -> bool
+    ensures { λ r. ⌜ r ≡ test (isUserType ty) ⌝ }
+{
+    (ty == names::ONCE)
+        | ((ty == names::IDEMPOTENT) | ((ty == names::STICKY) | (ty == names::LATCH)))
+}
+
+// Whether it counts as gone once it has fired.
+pub fn is_gone_when_fired(ty: u64) -> bool
+    ensures { λ r. ⌜ r ≡ test (goneWhenFired ty) ⌝ }
+{
+    (ty == names::ONCE) | ((ty == names::LATCH) | (ty == names::OUTPUT))
+}
+
+// Whether it refuses a further satisfaction once it has fired.
+pub fn refuses_further(ty: u64) -> bool
+    ensures { λ r. ⌜ r ≡ test (refusesFurther ty) ⌝ }
+{
+    ty == names::STICKY
+}
+
+// Whether it has slot j.
+pub fn has_type_slot(ty: u64, j: u64) -> bool
+    ensures { λ r. ⌜ r ≡ test (hasTypeSlot ty j) ⌝ }
+{
+    let first = (ty == names::ONCE)
+        | ((ty == names::IDEMPOTENT) | ((ty == names::STICKY) | (ty == names::LATCH)));
+    let second = ty == names::LATCH;
+    (j == 0) & first | (j == 1) & second
+}
