@@ -12,7 +12,8 @@ use Rattle.session.specs.Table.{Session}
 use Rattle.session.specs.declared.Field.the-variants.{Objects, TaskCreator}
 use Rattle.rules.specs.Formula.{Formula, holds, choose, Formula._and_, Formula.some, Formula.never}
 use Rattle.rules.specs.FormulaLaws.{Case, decide, choose-yes, choose-no, choose-same, Case.it-does, Case.it-does-not}
-use Rattle.rules.specs.Reading.{under, isLive, busy}
+use Rattle.rules.specs.Reading.{isLive}
+use Rattle.rules.specs.Descendants.{under, busy}
 use Rattle.laws.specs.Places.{Places, places, Places.one, Places.two}
 use Rattle.laws.specs.Under.{under-enough, or-map, Falls}
 

@@ -11,7 +11,7 @@ use Rattle.session.specs.Names.{delivered}
 use Rattle.rules.specs.declared.Operation.{Operation}
 use Rattle.rules.specs.Formula.{Formula, test, not, _iff_, choose, count, Formula._≐_, Formula._≼_, Formula._and_, Formula._or_}
 use Rattle.rules.specs.Formula.{Formula._then_, Formula.each, Formula.some}
-use Rattle.rules.specs.Reading.{at, under, isKind, isUndelivered}
+use Rattle.rules.specs.Reading.{at, isKind, isUndelivered}
 use Rattle.rules.specs.Sound.{soundUsed}
 use Rattle.rules.specs.Checks.{refusal}
 use Rattle.rules.specs.EventTypes.{ofType}
@@ -24,6 +24,7 @@ use Rattle.rules.specs.Book.{enterDeliver, enterStart, enterEnd, madeBy, live, 
 use Rattle.rules.specs.Book.{Column.Kind as BookKind, Column.Objects as BookObjects, Column.Links as BookLinks, Column.Times}
 use Rattle.rules.specs.Book.{Column.Brought, Column.Has, Column.Starts, Column.Ended, Column.Count, Column.Finish, Column.Output}
 use Rattle.rules.specs.Book.{Column.Destroyed, Column.Struck}
+use Rattle.rules.specs.Descendants.{under}
 
 -- a call and its answer: the refusal (0 if accepted), and the handle or link made
 pub record Line : Type 0 where
@@ -40,7 +41,9 @@ answers s l = answer s (l .operation) ≐ l .refused and outcome s (l .operation
 
 -- all that a call computes with
 unfoldable pub computed : ℕ
-unfolding put change test ofType count under refusal new newTemplate newEvent newTask makeTask newBlock fire fireOne satisfySlot tally satisfyEvent satisfy claim newLink depend buryDoomed letGo release destroyEvent fireFinished destroyTask destroyBlock destroy drops deliver grant start end rules freshSession answer after outcome
+unfolding put change test ofType count under refusal new newTemplate newEvent newTask makeTask newBlock fire fireOne satisfySlot
+    tally satisfyEvent satisfy claim newLink depend buryDoomed letGo release destroyEvent fireFinished destroyTask destroyBlock
+    destroy drops deliver grant start end rules freshSession answer after outcome
 computed = 0
 
 -- the answers along a list
@@ -149,7 +152,8 @@ related s b =
 
 -- demand 3 along a list that ends where nothing moves
 unfoldable pub demandAlong : Session → Book → List Line → Bool
-unfolding computed total madeBy opening entered enter enterObject enterTask enterLink satisfies strike enterDestroy enterDeliver enterStart enterEnd
+unfolding computed total madeBy opening entered enter enterObject enterTask enterLink satisfies strike enterDestroy enterDeliver
+    enterStart enterEnd
 demandAlong s b [] = test (related s b and still s and stuck b)
 demandAlong s b (l ∷ ls) =
     elim (test (answers s l)) [

@@ -2,14 +2,20 @@
 use Prim.Native.Nat.{ℕ}
 use mathlib.Core.Path.{_≡_, refl, sym, _∙_}
 use mathlib.Core.List.{List, [], _∷_}
-use lib.ListN.{drop}
+use lib.Dec.{eqb}
+use Rattle.session.specs.Table.{pick}
 use Rattle.rules.specs.Formula.{Formula, holds}
 use Rattle.rules.specs.FormulaLaws.{choose-yes, choose-no}
 use Rattle.rules.specs.Checks.{Check, check, refusal}
 
--- the refusal is that of the checks after the first k
+-- the checks after the one of a number
+abbrev pub after : ℕ → List Check → List Check
+after n [] = []
+after n (c ∷ cs) = pick (eqb (c .number) n) cs (after n cs)
+
+-- the refusal is that of the checks after the one of a number
 abbrev pub Left : List Check → ℕ → Type 0
-Left cs k = refusal cs ≡ refusal (drop k cs)
+Left cs n = refusal cs ≡ refusal (after n cs)
 
 pub stop : (n : ℕ) (f : Formula) (cs : List Check) → (holds f → ⊥) → n ≡ refusal (check n f ∷ cs)
 unfolding refusal

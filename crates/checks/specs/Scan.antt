@@ -14,11 +14,11 @@ use Rattle.session.specs.declared.Field.the-variants.{Objects, TaskState, TaskS
 use Rattle.session.specs.Names.{resolved, granted, running, held, modeRO}
 use Rattle.rules.specs.declared.Slot.{Slot}
 use Rattle.rules.specs.declared.Task.{Task}
-use Rattle.rules.specs.Formula.{Formula, holds, not, test, Formula._≐_, Formula._and_}
+use Rattle.rules.specs.Formula.{Formula, holds, not, test, Formula._≐_, Formula._and_, Formula.some}
 use Rattle.rules.specs.FormulaLaws.{Case, decide, test-same, Case.it-does, Case.it-does-not}
 use Rattle.rules.specs.Modes.{stoppedBy}
 use Rattle.rules.specs.ModeLaws.{stopped-not-RO}
-use Rattle.rules.specs.Checks.{slotFree}
+use Rattle.rules.specs.Checks.{slotFree, slotStops}
 use Rattle.rules.specs.Sound.{sound}
 use Rattle.laws.specs.Rows.Name.{kinds, taskParts}
 use Rattle.laws.specs.ByName.{sound-by-name}
@@ -181,5 +181,8 @@ free-unclaimed s t i n = go (decide (s SlotPayload i ≐ 0)) (decide (s SlotMode
   where
     go : Case (s SlotPayload i ≐ 0) → Case (s SlotMode i ≐ modeRO) → holds (slotFree s t i)
     go (it-does z) d = inl z
-    go (it-does-not z) (it-does o) = inr ((λ x. stopped-not-RO _ _ (x .2 .1 .1 .1) o), λ x. stopped-not-RO _ _ (x .1 .1) o)
+    go (it-does-not z) (it-does o) = inr (no-slot, λ x. stopped-not-RO _ _ (x .1 .1) o)
+      where
+        no-slot : holds (some (16 * (s Objects 0 + 1)) (slotStops s t i)) → ⊥
+        no-slot (k, b, (other, (mark, (block, stopped)))) = stopped-not-RO _ _ stopped o
     go (it-does-not z) (it-does-not o) = absurd (n (z, o))

@@ -65,4 +65,4 @@ hold-at s h k few e = go (sound-by-name s h slots (k / 16) (let m = l in omega a
           block = subst (λ (i : ℕ). 1 ≤ s SlotPayload i) (sym (place-split k))
               (r .0);
         }
-    go (inr x) = let z = x .1 .1 .0 in let y = e′ in absurd (omega arith)
+    go (inr (past, (no-mode, (no-mark, no-payload)))) = let y = e′ in absurd (omega arith)

@@ -14,6 +14,7 @@ ghost use mathlib.Core.Path.{_≡_};
 ghost use Prim.Native.Nat.{_+_, _*_, _≤_, _<_};
 ghost use lib.ListN.{length};
 ghost use Rattle.session.specs.Table.{read, words, at};
+ghost use Rattle.session.specs.Lent.{was};
 ghost use Rattle.session.specs.declared.Field.the-variants.{Objects, TaskState, TaskSlots};
 ghost use Rattle.session.specs.Names.{resolved, mostObjects, slotPlaces};
 ghost use Rattle.rules.specs.Formula.{test, holds};
@@ -23,7 +24,7 @@ ghost use Rattle.checks.specs.GrantChecks.{slotAt, taskAt, isClaim, hasC
 // The slot at place i of the fields of slots.
 fn slot_at(s: &[u64], i: usize) -> Slot
     requires { ⌜ (words ≤ length (now s)) × (i < slotPlaces) ⌝ }
-    ensures { λ r. ⌜ r ≡ slotAt (read (now (s .entry))) i ⌝ }
+    ensures { λ r. ⌜ r ≡ slotAt (was s) i ⌝ }
 {
     Slot {
         mode: session::get(s, Field::SlotMode, i),
@@ -34,7 +35,7 @@ fn slot_at(s: &[u64], i: usize) -> Slot
 
 fn slot_of(s: &[u64], t: usize, j: usize) -> Slot
     requires { ⌜ (words ≤ length (now s)) × (t ≤ mostObjects) × (j < 16) ⌝ }
-    ensures { λ r. ⌜ r ≡ slotAt (read (now (s .entry))) (at t j) ⌝ }
+    ensures { λ r. ⌜ r ≡ slotAt (was s) (at t j) ⌝ }
 {
     slot_at(s, t * 16 + j)
 }
@@ -42,7 +43,7 @@ fn slot_of(s: &[u64], t: usize, j: usize) -> Slot
 // A task with its sixteen slots.
 fn task_at(s: &[u64], t: usize) -> Task
     requires { ⌜ (words ≤ length (now s)) × (t ≤ mostObjects) ⌝ }
-    ensures { λ r. ⌜ r ≡ taskAt (read (now (s .entry))) t ⌝ }
+    ensures { λ r. ⌜ r ≡ taskAt (was s) t ⌝ }
 {
     let mut slots = [Slot {
         mode: 0,
@@ -76,7 +77,7 @@ fn is_claim(slot: Slot) -> bool
 
 fn has_claim(s: &[u64], t: u64) -> bool
     requires { ⌜ (words ≤ length (now s)) × (t ≤ mostObjects) × (read (now s) TaskSlots t ≤ 16) ⌝ }
-    ensures { λ r. ⌜ r ≡ test (hasClaim (read (now (s .entry))) t) ⌝ }
+    ensures { λ r. ⌜ r ≡ test (hasClaim (was s) t) ⌝ }
 {
     let count = of_object(s, Field::TaskSlots, t);
     let mut j: u64 = 0;
@@ -102,7 +103,7 @@ fn clashes(slot: Slot, hold: Slot) -> bool
 // Whether another task holds the slot's block since it made it, and so stops what the slot asks for.
 fn maker_clashes(s: &[u64], t: u64, slot: Slot) -> bool
     requires { ⌜ words ≤ length (now s) ⌝ }
-    ensures { λ r. ⌜ r ≡ test (makerClash (read (now (s .entry))) t slot) ⌝ }
+    ensures { λ r. ⌜ r ≡ test (makerClash (was s) t slot) ⌝ }
 {
     if slot.payload == 0 {
         return false;
@@ -120,7 +121,7 @@ fn maker_clashes(s: &[u64], t: u64, slot: Slot) -> bool
 // creation of the slot's block.
 fn hold_clashes(s: &[u64], t: u64, slot: Slot, k: usize) -> bool
     requires { ⌜ (words ≤ length (now s)) × (k < slotPlaces) ⌝ }
-    ensures { λ r. ⌜ r ≡ test (holdClash (read (now (s .entry))) t slot k) ⌝ }
+    ensures { λ r. ⌜ r ≡ test (holdClash (was s) t slot k) ⌝ }
 {
     if k == 0 {
         return maker_clashes(s, t, slot);
@@ -134,7 +135,7 @@ fn hold_clashes(s: &[u64], t: u64, slot: Slot, k: usize) -> bool
 // Whether the block of each pre-slot remains: none is doomed or destroyed.
 pub fn blocks_remain(s: &[u64], t: u64) -> bool
     requires { ⌜ words ≤ length (now s) ⌝ }
-    ensures { λ r. ⌜ r ≡ test (blocksRemain (read (now (s .entry))) t) ⌝ }
+    ensures { λ r. ⌜ r ≡ test (blocksRemain (was s) t) ⌝ }
 {
     let count = of_object(s, Field::TaskSlots, t);
     let mut j: u64 = 0;
@@ -154,7 +155,7 @@ pub fn is_free(s: &[u64], t: u64) -> bool
     requires { ⌜
         (words ≤ length (now s)) × holds (sound (read (now s))) × (t ≤ read (now s) Objects 0) × (read (now s) TaskState t ≡ resolved)
         ⌝ }
-    ensures { λ r. ⌜ r ≡ test (slotsFree (read (now (s .entry))) t) ⌝ }
+    ensures { λ r. ⌜ r ≡ test (slotsFree (was s) t) ⌝ }
 {
     if !has_claim(s, t) {
         return true;

@@ -8,6 +8,7 @@ ghost use Prim.Native.Nat.{_+_, _*_, _/_, _≤_, _<_};
 ghost use lib.ListN.{length, getD};
 ghost use Rattle.session.specs.Names.{mostObjects, objectPlaces, slotPlaces};
 ghost use Rattle.session.specs.Table.{read, words};
+ghost use Rattle.session.specs.Lent.{was};
 ghost use Rattle.session.specs.declared.Field.the-variants.{Objects};
 ghost use Rattle.rules.specs.Formula.{test, holds, Formula.some};
 ghost use Rattle.rules.specs.Sound.{sound};
@@ -16,7 +17,7 @@ ghost use Rattle.checks.specs.HolderList.{Passed, Listed, More, isHolder
 // Whether h may hold blocks by its slots.
 fn is_holder(s: &[u64], h: usize) -> bool
     requires { ⌜ (words ≤ length (now s)) × (h < objectPlaces) ⌝ }
-    ensures { λ r. ⌜ r ≡ test (isHolder (read (now (s .entry))) h) ⌝ }
+    ensures { λ r. ⌜ r ≡ test (isHolder (was s) h) ⌝ }
 {
     let state = session::get(s, Field::TaskState, h);
     if state == names::GRANTED {
@@ -28,8 +29,8 @@ fn is_holder(s: &[u64], h: usize) -> bool
 // Whether one of the eight handles from h on is a holder's. The bound of the loop is constant, so that the compiler makes
 // eight tests in a row of it.
 fn has_holder(s: &[u64], h: usize) -> bool
-    requires { ⌜ (words ≤ length (now s)) × (h ≤ 505) ⌝ }
-    ensures { λ r. ⌜ r ≡ test (some 8 (λ n. isHolder (read (now (s .entry))) (h + n))) ⌝ }
+    requires { ⌜ (words ≤ length (now s)) × (h + 8 ≤ objectPlaces) ⌝ }
+    ensures { λ r. ⌜ r ≡ test (some 8 (λ n. isHolder (was s) (h + n))) ⌝ }
 {
     let mut n: usize = 0;
     while n < 8 {
@@ -44,7 +45,7 @@ fn has_holder(s: &[u64], h: usize) -> bool
 // The first holder from `from` on, or n if none is before it. Eight handles at a time are passed over first.
 fn next_holder(s: &[u64], n: usize, from: usize) -> usize
     requires { ⌜ (words ≤ length (now s)) × (from ≤ n) × (n ≤ mostObjects) ⌝ }
-    ensures { λ r. ⌜ (r ≤ n) × Passed (isHolder (read (now (s .entry)))) from r ⌝ }
+    ensures { λ r. ⌜ (r ≤ n) × Passed (isHolder (was s)) from r ⌝ }
 {
     let mut h = from;
     while h + 8 <= n {
@@ -72,7 +73,7 @@ pub fn find_more(
 ) -> usize
     requires { ⌜ (words ≤ length (now s)) × (read (now s) Objects 0 ≤ mostObjects) × Listed (read (now s)) (now holders) found
         × (q ≤ 16 * found) ⌝ }
-    ensures { λ r. ⌜ More (read (now (s .entry))) (now (holders .entry)) (now (holders .exit)) found r q ⌝ }
+    ensures { λ r. ⌜ More (was s) (now (holders .entry)) (now (holders .exit)) found r q ⌝ }
 {
     if q < 16 * found {
         return found;
@@ -99,7 +100,7 @@ pub fn place_at(holders: &[u16; names::OBJECT_PLACES], q: usize) -> usize
 // The number after q of the place at which the next hold may be: the holder's next slot, or the first one of the next holder.
 pub fn next_place(s: &[u64], holders: &[u16; names::OBJECT_PLACES], found: usize, q: usize) -> usize
     requires { ⌜ (words ≤ length (now s)) × holds (sound (read (now s))) × Listed (read (now s)) (now holders) found × (q < 16 * found) ⌝ }
-    ensures { λ r. ⌜ (r ≤ 16 * found) × Passed (λ i. isHold (read (now (s .entry))) (placeOf (now (holders .entry)) i)) (q + 1) r ⌝ }
+    ensures { λ r. ⌜ (r ≤ 16 * found) × Passed (λ i. isHold (was s) (placeOf (now (holders .entry)) i)) (q + 1) r ⌝ }
 {
     let i = q / 16;
     let j = q % 16 + 1;

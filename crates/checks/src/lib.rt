@@ -4,6 +4,7 @@ ghost use mathlib.Core.Path.{_≡_};
 ghost use Prim.Native.Nat.{_≤_};
 ghost use lib.ListN.{length};
 ghost use Rattle.session.specs.Table.{read, words};
+ghost use Rattle.session.specs.Lent.{was};
 ghost use Rattle.rules.specs.Formula.{holds};
 ghost use Rattle.rules.specs.Sound.{sound};
 ghost use Rattle.rules.specs.Checks.{refusal, templateChecks, taskChecks, eventChecks, blockChecks, dependenceChecks, satisfyChecks, releaseChecks, destroyChecks, deliverChecks, grantChecks, startChecks, endChecks};
@@ -43,7 +44,7 @@ use session::names;
 
 pub fn template_refusal(s: &[u64], caller: u64, n: u64) -> u64
     requires { ⌜ words ≤ length (now s) ⌝ }
-    ensures { λ r. ⌜ r ≡ refusal (templateChecks (read (now (s .entry))) caller n) ⌝ }
+    ensures { λ r. ⌜ r ≡ refusal (templateChecks (was s) caller n) ⌝ }
 {
     if names::UNKNOWN_COUNT < n {
         return refusals::OUT_OF_RANGE;
@@ -59,7 +60,7 @@ pub fn template_refusal(s: &[u64], caller: u64, n: u64) -> u64
 
 pub fn task_refusal(s: &[u64], caller: u64, template: u64, n: u64, finish: u64, output: u64) -> u64
     requires { ⌜ words ≤ length (now s) ⌝ }
-    ensures { λ r. ⌜ r ≡ refusal (taskChecks (read (now (s .entry))) caller template n finish output) ⌝ }
+    ensures { λ r. ⌜ r ≡ refusal (taskChecks (was s) caller template n finish output) ⌝ }
 {
     if names::UNKNOWN_COUNT < n {
         return refusals::OUT_OF_RANGE;
@@ -93,7 +94,7 @@ pub fn task_refusal(s: &[u64], caller: u64, template: u64, n: u64, finish: u64, 
 
 pub fn event_refusal(s: &[u64], caller: u64, ty: u64) -> u64
     requires { ⌜ words ≤ length (now s) ⌝ }
-    ensures { λ r. ⌜ r ≡ refusal (eventChecks (read (now (s .entry))) caller ty) ⌝ }
+    ensures { λ r. ⌜ r ≡ refusal (eventChecks (was s) caller ty) ⌝ }
 {
     if !is_offered_type(ty) {
         return refusals::OUT_OF_RANGE;
@@ -109,7 +110,7 @@ pub fn event_refusal(s: &[u64], caller: u64, ty: u64) -> u64
 
 pub fn block_refusal(s: &[u64], caller: u64, hold: u64) -> u64
     requires { ⌜ words ≤ length (now s) ⌝ }
-    ensures { λ r. ⌜ r ≡ refusal (blockChecks (read (now (s .entry))) caller hold) ⌝ }
+    ensures { λ r. ⌜ r ≡ refusal (blockChecks (was s) caller hold) ⌝ }
 {
     if 1 < hold {
         return refusals::OUT_OF_RANGE;
@@ -126,7 +127,7 @@ pub fn block_refusal(s: &[u64], caller: u64, hold: u64) -> u64
 // The checks of a dependence from 14 on: those of a link, or those of a slot that is satisfied now.
 fn satisfy_or_link_refusal(s: &[u64], source: u64, d: u64, j: u64) -> u64
     requires { ⌜ words ≤ length (now s) ⌝ }
-    ensures { λ r. ⌜ r ≡ refusal (satisfyOrLinkChecks (read (now (s .entry))) source d j) ⌝ }
+    ensures { λ r. ⌜ r ≡ refusal (satisfyOrLinkChecks (was s) source d j) ⌝ }
 {
     if is_kind(s, names::EVENT, source) {
         if names::MOST_LINKS <= session::get(s, Field::Links, 0) {
@@ -145,7 +146,7 @@ fn satisfy_or_link_refusal(s: &[u64], source: u64, d: u64, j: u64) -> u64
 
 pub fn dependence_refusal(s: &[u64], caller: u64, source: u64, d: u64, j: u64, mode: u64) -> u64
     requires { ⌜ words ≤ length (now s) ⌝ }
-    ensures { λ r. ⌜ r ≡ refusal (dependenceChecks (read (now (s .entry))) caller source d j mode) ⌝ }
+    ensures { λ r. ⌜ r ≡ refusal (dependenceChecks (was s) caller source d j mode) ⌝ }
 {
     if mode < names::RO {
         return refusals::OUT_OF_RANGE;
@@ -185,7 +186,7 @@ pub fn dependence_refusal(s: &[u64], caller: u64, source: u64, d: u64, j: u64, m
 
 pub fn satisfy_refusal(s: &[u64], caller: u64, e: u64, b: u64, j: u64) -> u64
     requires { ⌜ words ≤ length (now s) ⌝ }
-    ensures { λ r. ⌜ r ≡ refusal (satisfyChecks (read (now (s .entry))) caller e b j) ⌝ }
+    ensures { λ r. ⌜ r ≡ refusal (satisfyChecks (was s) caller e b j) ⌝ }
 {
     if !is_running(s, caller) {
         return refusals::CALLER_NOT_RUNNING;
@@ -222,7 +223,7 @@ pub fn satisfy_refusal(s: &[u64], caller: u64, e: u64, b: u64, j: u64) -> u64
 
 pub fn release_refusal(s: &[u64], caller: u64, b: u64) -> u64
     requires { ⌜ words ≤ length (now s) ⌝ }
-    ensures { λ r. ⌜ r ≡ refusal (releaseChecks (read (now (s .entry))) caller b) ⌝ }
+    ensures { λ r. ⌜ r ≡ refusal (releaseChecks (was s) caller b) ⌝ }
 {
     if !is_running(s, caller) {
         return refusals::CALLER_NOT_RUNNING;
@@ -244,7 +245,7 @@ pub fn release_refusal(s: &[u64], caller: u64, b: u64) -> u64
 
 pub fn destroy_refusal(s: &[u64], caller: u64, h: u64) -> u64
     requires { ⌜ words ≤ length (now s) ⌝ }
-    ensures { λ r. ⌜ r ≡ refusal (destroyChecks (read (now (s .entry))) caller h) ⌝ }
+    ensures { λ r. ⌜ r ≡ refusal (destroyChecks (was s) caller h) ⌝ }
 {
     if !is_running(s, caller) {
         return refusals::CALLER_NOT_RUNNING;
@@ -266,7 +267,7 @@ pub fn destroy_refusal(s: &[u64], caller: u64, h: u64) -> u64
 
 pub fn deliver_refusal(s: &[u64], l: u64) -> u64
     requires { ⌜ words ≤ length (now s) ⌝ }
-    ensures { λ r. ⌜ r ≡ refusal (deliverChecks (read (now (s .entry))) l) ⌝ }
+    ensures { λ r. ⌜ r ≡ refusal (deliverChecks (was s) l) ⌝ }
 {
     if l == 0 {
         return refusals::NEVER_MADE;
@@ -283,7 +284,7 @@ pub fn deliver_refusal(s: &[u64], l: u64) -> u64
 // Internal, and the memory is a sound session.
 pub fn grant_refusal(s: &[u64], t: u64) -> u64
     requires { ⌜ (words ≤ length (now s)) × holds (sound (read (now s))) ⌝ }
-    ensures { λ r. ⌜ r ≡ refusal (grantChecks (read (now (s .entry))) t) ⌝ }
+    ensures { λ r. ⌜ r ≡ refusal (grantChecks (was s) t) ⌝ }
 {
     if !is_made(s, t) {
         return refusals::NEVER_MADE;
@@ -308,7 +309,7 @@ pub fn grant_refusal(s: &[u64], t: u64) -> u64
 
 pub fn start_refusal(s: &[u64], t: u64) -> u64
     requires { ⌜ words ≤ length (now s) ⌝ }
-    ensures { λ r. ⌜ r ≡ refusal (startChecks (read (now (s .entry))) t) ⌝ }
+    ensures { λ r. ⌜ r ≡ refusal (startChecks (was s) t) ⌝ }
 {
     if !is_made(s, t) {
         return refusals::NEVER_MADE;
@@ -327,7 +328,7 @@ pub fn start_refusal(s: &[u64], t: u64) -> u64
 
 pub fn end_refusal(s: &[u64], t: u64, b: u64) -> u64
     requires { ⌜ words ≤ length (now s) ⌝ }
-    ensures { λ r. ⌜ r ≡ refusal (endChecks (read (now (s .entry))) t b) ⌝ }
+    ensures { λ r. ⌜ r ≡ refusal (endChecks (was s) t b) ⌝ }
 {
     if !is_made(s, t) {
         return refusals::NEVER_MADE;

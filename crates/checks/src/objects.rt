@@ -13,7 +13,8 @@ ghost use Prim.Native.Nat.{_≤_, _+_};
 ghost use lib.ListN.{length};
 ghost use Rattle.session.specs.declared.Field.the-variants.{Objects, TaskState, SlotMode};
 ghost use Rattle.session.specs.Names.{task, event, block, resolved, mostObjects};
-ghost use Rattle.session.specs.Table.{read, words, at};
+ghost use Rattle.session.specs.Table.{words, at};
+ghost use Rattle.session.specs.Lent.{was};
 ghost use Rattle.rules.specs.Formula.{test, Formula._≐_, Formula._≼_, Formula._or_, Formula._then_};
 ghost use Rattle.rules.specs.Reading.{made, isKind, isUserEvent};
 ghost use Rattle.rules.specs.Checks.{orNull, remains};
@@ -21,7 +22,7 @@ ghost use Rattle.checks.specs.CheckParts.{isCount};
 
 pub fn is_made_or_null(s: &[u64], h: u64) -> bool
     requires { ⌜ words ≤ length (now s) ⌝ }
-    ensures { λ r. ⌜ r ≡ test (orNull (read (now (s .entry))) (made (read (now (s .entry)))) h) ⌝ }
+    ensures { λ r. ⌜ r ≡ test (orNull (was s) (made (was s)) h) ⌝ }
 {
     if h == 0 {
         return true;
@@ -31,7 +32,7 @@ pub fn is_made_or_null(s: &[u64], h: u64) -> bool
 
 pub fn is_block_or_null(s: &[u64], h: u64) -> bool
     requires { ⌜ words ≤ length (now s) ⌝ }
-    ensures { λ r. ⌜ r ≡ test (orNull (read (now (s .entry))) (isKind (read (now (s .entry))) block) h) ⌝ }
+    ensures { λ r. ⌜ r ≡ test (orNull (was s) (isKind (was s) block) h) ⌝ }
 {
     if h == 0 {
         return true;
@@ -41,7 +42,7 @@ pub fn is_block_or_null(s: &[u64], h: u64) -> bool
 
 pub fn remains_or_null(s: &[u64], h: u64) -> bool
     requires { ⌜ words ≤ length (now s) ⌝ }
-    ensures { λ r. ⌜ r ≡ test (orNull (read (now (s .entry))) (remains (read (now (s .entry)))) h) ⌝ }
+    ensures { λ r. ⌜ r ≡ test (orNull (was s) (remains (was s)) h) ⌝ }
 {
     if h == 0 {
         return true;
@@ -52,9 +53,7 @@ pub fn remains_or_null(s: &[u64], h: u64) -> bool
 // What a dependence may come from: null, a block or an event.
 pub fn is_source(s: &[u64], h: u64) -> bool
     requires { ⌜ words ≤ length (now s) ⌝ }
-    ensures { λ r. ⌜
-        r ≡ test (orNull (read (now (s .entry))) (λ k. isKind (read (now (s .entry))) block k or isKind (read (now (s .entry))) event k) h)
-        ⌝ }
+    ensures { λ r. ⌜ r ≡ test (orNull (was s) (λ k. isKind (was s) block k or isKind (was s) event k) h) ⌝ }
 {
     if h == 0 {
         return true;
@@ -68,7 +67,7 @@ pub fn is_source(s: &[u64], h: u64) -> bool
 // What a dependence may lead to: a task, or an event of a type that users make.
 pub fn is_destination(s: &[u64], h: u64) -> bool
     requires { ⌜ words ≤ length (now s) ⌝ }
-    ensures { λ r. ⌜ r ≡ test (isKind (read (now (s .entry))) task h or isUserEvent (read (now (s .entry))) h) ⌝ }
+    ensures { λ r. ⌜ r ≡ test (isKind (was s) task h or isUserEvent (was s) h) ⌝ }
 {
     if is_kind(s, names::TASK, h) {
         return true;
@@ -79,7 +78,7 @@ pub fn is_destination(s: &[u64], h: u64) -> bool
 // Whether slot j of h, where h is a task, is unclaimed.
 pub fn is_unclaimed(s: &[u64], h: u64, j: u64) -> bool
     requires { ⌜ words ≤ length (now s) ⌝ }
-    ensures { λ r. ⌜ r ≡ test (isKind (read (now (s .entry))) task h then read (now (s .entry)) SlotMode (at h j) ≐ 0) ⌝ }
+    ensures { λ r. ⌜ r ≡ test (isKind (was s) task h then was s SlotMode (at h j) ≐ 0) ⌝ }
 {
     if !is_kind(s, names::TASK, h) {
         return true;
@@ -90,7 +89,7 @@ pub fn is_unclaimed(s: &[u64], h: u64, j: u64) -> bool
 // What may be destroyed: anything but an output event.
 pub fn is_destroyable(s: &[u64], h: u64) -> bool
     requires { ⌜ words ≤ length (now s) ⌝ }
-    ensures { λ r. ⌜ r ≡ test (isKind (read (now (s .entry))) event h then isUserEvent (read (now (s .entry))) h) ⌝ }
+    ensures { λ r. ⌜ r ≡ test (isKind (was s) event h then isUserEvent (was s) h) ⌝ }
 {
     if !is_kind(s, names::EVENT, h) {
         return true;
@@ -101,7 +100,7 @@ pub fn is_destroyable(s: &[u64], h: u64) -> bool
 // Whether h, where it is a task, is waiting or resolved.
 pub fn is_idle(s: &[u64], h: u64) -> bool
     requires { ⌜ words ≤ length (now s) ⌝ }
-    ensures { λ r. ⌜ r ≡ test (isKind (read (now (s .entry))) task h then read (now (s .entry)) TaskState h ≼ resolved) ⌝ }
+    ensures { λ r. ⌜ r ≡ test (isKind (was s) task h then was s TaskState h ≼ resolved) ⌝ }
 {
     if !is_kind(s, names::TASK, h) {
         return true;
@@ -112,7 +111,7 @@ pub fn is_idle(s: &[u64], h: u64) -> bool
 // Whether a template admits a count of pre-slots.
 pub fn is_count(s: &[u64], template: u64, n: u64) -> bool
     requires { ⌜ words ≤ length (now s) ⌝ }
-    ensures { λ r. ⌜ r ≡ test (isCount (read (now (s .entry))) template n) ⌝ }
+    ensures { λ r. ⌜ r ≡ test (isCount (was s) template n) ⌝ }
 {
     let count = task_slots(s, template, n);
     if 16 < count {
@@ -128,7 +127,7 @@ pub fn is_count(s: &[u64], template: u64, n: u64) -> bool
 // Whether n more objects can be made.
 pub fn has_room(s: &[u64], n: u64) -> bool
     requires { ⌜ (words ≤ length (now s)) × (n ≤ mostObjects) ⌝ }
-    ensures { λ r. ⌜ r ≡ test (read (now (s .entry)) Objects 0 + n ≼ mostObjects) ⌝ }
+    ensures { λ r. ⌜ r ≡ test (was s Objects 0 + n ≼ mostObjects) ⌝ }
 {
     session::get(s, Field::Objects, 0) <= names::MOST_OBJECTS - n
 }

@@ -14,9 +14,8 @@ use sheet_counts::Tally;
 ghost use Prim.Native.Nat.{_≤_, _-_};
 ghost use mathlib.Core.Path.{_≡_};
 ghost use lib.ListN.{length, take, drop};
-ghost use Rattle.session.specs.Table.{read};
+ghost use Rattle.session.specs.Lent.{was};
 ghost use Rattle.rules.specs.Formula.{choose, Formula._≼_};
-ghost use Rattle.rules.specs.Sound.{kept};
 ghost use Rattle.class_rules.specs.Report.{mostBytes, head, lastLine};
 ghost use Rattle.class.specs.Steps.{begun, isOver, asks, fedTo, turned, stopping, entryTo, entryOrLine, going, valued};
 ghost use Rattle.class.specs.Steps.{byte, turnedIn, closing, closed, holding, superseded, after, taken, sheetTaken};
@@ -286,7 +285,7 @@ fn print_pending(report: Report, room: &[u8], memory: &mut [u64], lines: &mut [u
     requires { ⌜ Lent (now memory) (now lines) ⌝ }
     ensures { λ r. ⌜
         Moved (now (memory .entry)) (now (memory .exit)) (now (lines .entry)) (now (lines .exit)) r
-        (closed (now (room .entry)) report (read (now (memory .entry))) (report .pending))
+        (closed (now (room .entry)) report (was memory) (report .pending))
         ⌝ }
 {
     let pending = report.pending;
@@ -377,7 +376,7 @@ fn take_after(
     requires { ⌜ place ≤ length (now room) ⌝ }
     ensures { λ r. ⌜
         Moved (now (memory .entry)) (now (memory .exit)) (now (lines .entry)) (now (lines .exit)) r
-        (after (now (room .entry)) report (read (now (memory .entry))) place sheet)
+        (after (now (room .entry)) report (was memory) place sheet)
         ⌝ }
 {
     if report.learner < sheet.learner {
@@ -408,7 +407,7 @@ fn take_whole(
     requires { ⌜ place ≤ length (now room) ⌝ }
     ensures { λ r. ⌜
         Moved (now (memory .entry)) (now (memory .exit)) (now (lines .entry)) (now (lines .exit)) r
-        (taken (now (room .entry)) report (read (now (memory .entry))) place (report .pending))
+        (taken (now (room .entry)) report (was memory) place (report .pending))
         ⌝ }
 {
     let pending = report.pending;
@@ -434,7 +433,7 @@ fn take_sheet(
     requires { ⌜ (place ≤ end) × (end ≤ length (now room)) ⌝ }
     ensures { λ r. ⌜
         Moved (now (memory .entry)) (now (memory .exit)) (now (lines .entry)) (now (lines .exit)) r
-        (sheetTaken (now (room .entry)) report (read (now (memory .entry))) place (take (end - place) (drop place (now (room .entry)))))
+        (sheetTaken (now (room .entry)) report (was memory) place (take (end - place) (drop place (now (room .entry)))))
         ⌝ }
 {
     if MOST < report.length {

@@ -7,10 +7,10 @@ use Rattle.decimal.specs.Decimal.{decimal, decimalIn}
 use Rattle.lines.specs.Line.{line, marked}
 use Rattle.session.specs.Table.{put}
 use Rattle.rules.specs.Formula.{test, count}
-use Rattle.rules.specs.Reading.{liveTasks, undeliveredLinks}
 use Rattle.rules.specs.Checks.{refusal}
 use Rattle.rules.specs.Effects.{new}
 use Rattle.rules.specs.Step.{freshSession}
+use Rattle.rules.specs.LastLine.{liveTasks, undeliveredLinks}
 use Rattle.record.specs.Sheet.{headRefusal}
 use Rattle.laws.specs.Fresh.{fresh-kept}
 use Rattle.laws.specs.ByName.{kept-sound}

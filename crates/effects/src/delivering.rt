@@ -3,7 +3,8 @@ use crate::satisfying::satisfy_either;
 use session::Field;
 ghost use Prim.Native.Nat.{_≤_};
 ghost use lib.ListN.{length};
-ghost use Rattle.session.specs.Table.{Wrote, read, words};
+ghost use Rattle.session.specs.Table.{read, words};
+ghost use Rattle.session.specs.Lent.{was, Becomes};
 ghost use Rattle.rules.specs.Formula.{holds};
 ghost use Rattle.rules.specs.Sound.{sound};
 ghost use Rattle.rules.specs.Checks.{deliverChecks};
@@ -13,7 +14,7 @@ ghost use Rattle.laws.specs.Met.{met};
 // 9 deliver (link). Internal: callers have shown the length, a sound session and the checks.
 pub fn deliver(s: &mut [u64], l: u64)
     requires { ⌜ (words ≤ length (now s)) × holds (sound (read (now s))) × met (deliverChecks (read (now s)) l) ⌝ }
-    ensures { λ r. ⌜ Wrote (now (s .entry)) (now (s .exit)) (rules.deliver (read (now (s .entry))) l) ⌝ }
+    ensures { λ r. ⌜ Becomes s (rules.deliver (was s) l) ⌝ }
 {
     let at = l as usize;
     let d = session::get(s, Field::LinkTarget, at);

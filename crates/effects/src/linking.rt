@@ -4,7 +4,8 @@ use session::Field;
 ghost use mathlib.Core.Path.{_≡_};
 ghost use Prim.Native.Nat.{_≤_, _<_, _+_};
 ghost use lib.ListN.{length};
-ghost use Rattle.session.specs.Table.{Wrote, read, words};
+ghost use Rattle.session.specs.Table.{read, words};
+ghost use Rattle.session.specs.Lent.{was, Becomes};
 ghost use Rattle.session.specs.declared.Field.the-variants.{Links, Kind};
 ghost use Rattle.session.specs.Names.{task, mostObjects, mostLinks};
 ghost use Rattle.rules.specs.Formula.{holds};
@@ -19,7 +20,7 @@ ghost use Rattle.effects.specs.Linking.{firstLink};
 // the slot.
 fn claim(s: &mut [u64], d: u64, j: u64, mode: u64)
     requires { ⌜ (words ≤ length (now s)) × (d ≤ mostObjects) × (read (now s) Kind d ≡ task → j < 16) ⌝ }
-    ensures { λ r. ⌜ Wrote (now (s .entry)) (now (s .exit)) (rules.claim (read (now (s .entry))) d j mode) ⌝ }
+    ensures { λ r. ⌜ Becomes s (rules.claim (was s) d j mode) ⌝ }
 {
     let at = d as usize;
     if session::get(s, Field::Kind, at) == session::names::TASK {
@@ -40,10 +41,7 @@ fn first_link(state: u64) -> u64
 // Makes a link from event source to slot j of d. Internal: callers have shown the length, the handle and the room.
 fn new_link(s: &mut [u64], source: u64, d: u64, j: u64) -> u64
     requires { ⌜ (words ≤ length (now s)) × (source ≤ mostObjects) × (read (now s) Links 0 < mostLinks) ⌝ }
-    ensures { λ r. ⌜
-        Made (now (s .entry)) (now (s .exit)) (rules.newLink (read (now (s .entry))) source d j)
-        (read (now (s .entry)) Links 0 + 1) r
-        ⌝ }
+    ensures { λ r. ⌜ Made (now (s .entry)) (now (s .exit)) (rules.newLink (was s) source d j) (was s Links 0 + 1) r ⌝ }
 {
     let state = first_link(session::get(s, Field::EventState, source as usize));
     let l = session::get(s, Field::Links, 0) + 1;
@@ -62,10 +60,7 @@ pub fn dependence(s: &mut [u64], caller: u64, source: u64, d: u64, j: u64, mode:
     requires { ⌜
         (words ≤ length (now s)) × holds (sound (read (now s))) × met (dependenceChecks (read (now s)) caller source d j mode)
         ⌝ }
-    ensures { λ r. ⌜
-        Made (now (s .entry)) (now (s .exit)) (rules.depend (read (now (s .entry))) source d j mode)
-        (linkMade (read (now (s .entry))) source) r
-        ⌝ }
+    ensures { λ r. ⌜ Made (now (s .entry)) (now (s .exit)) (rules.depend (was s) source d j mode) (linkMade (was s) source) r ⌝ }
 {
     let kind = session::get(s, Field::Kind, source as usize);
     claim(s, d, j, mode);

@@ -4,7 +4,8 @@ ghost use mathlib.Core.Path.{_≡_};
 ghost use Prim.Native.Nat.{_≤_, _+_};
 ghost use lib.ListN.{length};
 ghost use Rattle.session.specs.Names.{mostObjects};
-ghost use Rattle.session.specs.Table.{Wrote, read, words};
+ghost use Rattle.session.specs.Table.{read, words};
+ghost use Rattle.session.specs.Lent.{was, Becomes};
 ghost use Rattle.session.specs.declared.Field.the-variants.{Objects};
 ghost use Rattle.rules.specs.Formula.{holds};
 ghost use Rattle.rules.specs.Sound.{sound};
@@ -17,7 +18,7 @@ ghost use Rattle.effects.specs.FirstValues.{firstTally, firstState};
 // The handle that the next object gets. Internal: callers have shown the length and the room.
 fn next_object(s: &[u64]) -> u64
     requires { ⌜ (words ≤ length (now s)) × (read (now s) Objects 0 + 1 ≤ mostObjects) ⌝ }
-    ensures { λ r. ⌜ r ≡ read (now (s .entry)) Objects 0 + 1 ⌝ }
+    ensures { λ r. ⌜ r ≡ was s Objects 0 + 1 ⌝ }
 {
     session::get(s, Field::Objects, 0) + 1
 }
@@ -25,7 +26,7 @@ fn next_object(s: &[u64]) -> u64
 // Object h is the last, and of this kind. Internal: callers have shown the length and the handle.
 fn new_object(s: &mut [u64], h: u64, kind: u64)
     requires { ⌜ (words ≤ length (now s)) × (h ≤ mostObjects) ⌝ }
-    ensures { λ r. ⌜ Wrote (now (s .entry)) (now (s .exit)) (new (read (now (s .entry))) h kind) ⌝ }
+    ensures { λ r. ⌜ Becomes s (new (was s) h kind) ⌝ }
 {
     session::set(s, Field::Objects, 0, h);
     session::set(s, Field::Kind, h as usize, kind);
@@ -34,9 +35,7 @@ fn new_object(s: &mut [u64], h: u64, kind: u64)
 // 1 template (caller, count of pre-slots or 17). Internal: callers have shown the length, a sound session and the checks.
 pub fn template(s: &mut [u64], caller: u64, n: u64) -> u64
     requires { ⌜ (words ≤ length (now s)) × holds (sound (read (now s))) × met (templateChecks (read (now s)) caller n) ⌝ }
-    ensures { λ r. ⌜
-        Made (now (s .entry)) (now (s .exit)) (newTemplate (read (now (s .entry))) n) (read (now (s .entry)) Objects 0 + 1) r
-        ⌝ }
+    ensures { λ r. ⌜ Made (now (s .entry)) (now (s .exit)) (newTemplate (was s) n) (was s Objects 0 + 1) r ⌝ }
 {
     let h = next_object(s);
     new_object(s, h, session::names::TEMPLATE);
@@ -59,7 +58,7 @@ fn first_tally(ty: u64) -> u64
 // A new event of type ty with handle h. Internal: callers have shown the length and the handle.
 fn new_event(s: &mut [u64], h: u64, ty: u64)
     requires { ⌜ (words ≤ length (now s)) × (h ≤ mostObjects) ⌝ }
-    ensures { λ r. ⌜ Wrote (now (s .entry)) (now (s .exit)) (newEvent (read (now (s .entry))) h ty) ⌝ }
+    ensures { λ r. ⌜ Becomes s (newEvent (was s) h ty) ⌝ }
 {
     new_object(s, h, session::names::EVENT);
     let at = h as usize;
@@ -81,7 +80,7 @@ fn first_state(n: u64) -> u64
 // A new task with handle h and n pre-slots. Internal: callers have shown the length and the handle.
 fn new_task(s: &mut [u64], caller: u64, h: u64, n: u64, finish: u64, out: u64)
     requires { ⌜ (words ≤ length (now s)) × (h ≤ mostObjects) ⌝ }
-    ensures { λ r. ⌜ Wrote (now (s .entry)) (now (s .exit)) (newTask (read (now (s .entry))) caller h n finish out) ⌝ }
+    ensures { λ r. ⌜ Becomes s (newTask (was s) caller h n finish out) ⌝ }
 {
     new_object(s, h, session::names::TASK);
     let at = h as usize;
@@ -99,8 +98,8 @@ pub fn task(s: &mut [u64], caller: u64, tm: u64, n: u64, finish: u64, out: u64) 
         ⌝ }
     ensures { λ r. ⌜
         Made (now (s .entry)) (now (s .exit))
-        (makeTask (read (now (s .entry))) caller (taskSlots (read (now (s .entry))) tm n) finish out)
-        (read (now (s .entry)) Objects 0 + 1) r
+        (makeTask (was s) caller (taskSlots (was s) tm n) finish out)
+        (was s Objects 0 + 1) r
         ⌝ }
 {
     let slots = reading::task_slots(s, tm, n);
@@ -116,10 +115,7 @@ pub fn task(s: &mut [u64], caller: u64, tm: u64, n: u64, finish: u64, out: u64) 
 // 3 event (caller, type). Internal, as `template` is.
 pub fn event(s: &mut [u64], caller: u64, ty: u64) -> u64
     requires { ⌜ (words ≤ length (now s)) × holds (sound (read (now s))) × met (eventChecks (read (now s)) caller ty) ⌝ }
-    ensures { λ r. ⌜
-        Made (now (s .entry)) (now (s .exit)) (newEvent (read (now (s .entry))) (read (now (s .entry)) Objects 0 + 1) ty)
-        (read (now (s .entry)) Objects 0 + 1) r
-        ⌝ }
+    ensures { λ r. ⌜ Made (now (s .entry)) (now (s .exit)) (newEvent (was s) (was s Objects 0 + 1) ty) (was s Objects 0 + 1) r ⌝ }
 {
     let h = next_object(s);
     new_event(s, h, ty);
@@ -129,10 +125,7 @@ pub fn event(s: &mut [u64], caller: u64, ty: u64) -> u64
 // 4 block (caller, hold): with hold 1 its creator holds it. Internal, as `template` is.
 pub fn block(s: &mut [u64], caller: u64, hold: u64) -> u64
     requires { ⌜ (words ≤ length (now s)) × holds (sound (read (now s))) × met (blockChecks (read (now s)) caller hold) ⌝ }
-    ensures { λ r. ⌜
-        Made (now (s .entry)) (now (s .exit)) (newBlock (read (now (s .entry))) caller hold)
-        (read (now (s .entry)) Objects 0 + 1) r
-        ⌝ }
+    ensures { λ r. ⌜ Made (now (s .entry)) (now (s .exit)) (newBlock (was s) caller hold) (was s Objects 0 + 1) r ⌝ }
 {
     let h = next_object(s);
     new_object(s, h, session::names::BLOCK);

@@ -5,8 +5,9 @@ use session::Field;
 ghost use mathlib.Core.Path.{_≡_};
 ghost use Prim.Native.Nat.{_≤_};
 ghost use lib.ListN.{length};
-ghost use Rattle.session.specs.Names.{mostObjects};
-ghost use Rattle.session.specs.Table.{Wrote, read, words};
+ghost use Rattle.session.specs.Names.{mostObjects, topTally};
+ghost use Rattle.session.specs.Table.{read, words};
+ghost use Rattle.session.specs.Lent.{was, Becomes};
 ghost use Rattle.rules.specs.Formula.{holds};
 ghost use Rattle.rules.specs.Sound.{sound};
 ghost use Rattle.rules.specs.Checks.{satisfyChecks};
@@ -17,7 +18,7 @@ ghost use Rattle.effects.specs.Satisfying.{Firable, Countable, Fillable,
 // Satisfies slot j of task t with p. Internal: callers have shown the length, the handle and the slot.
 fn satisfy_slot(s: &mut [u64], t: u64, j: u64, p: u64)
     requires { ⌜ (words ≤ length (now s)) × (t ≤ mostObjects) × Fillable (read (now s)) t j ⌝ }
-    ensures { λ r. ⌜ Wrote (now (s .entry)) (now (s .exit)) (rules.satisfySlot (read (now (s .entry))) t j p) ⌝ }
+    ensures { λ r. ⌜ Becomes s (rules.satisfySlot (was s) t j p) ⌝ }
 {
     let at = t as usize * 16 + j as usize;
     session::set(s, Field::SlotMark, at, session::names::SATISFIED);
@@ -29,7 +30,7 @@ fn satisfy_slot(s: &mut [u64], t: u64, j: u64, p: u64)
 
 // A latch's tally n once its slot j was satisfied: 0 decrements, another increments. Internal: callers have shown the range.
 fn next_tally(n: u64, j: u64) -> u64
-    requires { ⌜ (n ≤ 65534) × (j ≡ 0 → 1 ≤ n) ⌝ }
+    requires { ⌜ (n ≤ topTally) × (j ≡ 0 → 1 ≤ n) ⌝ }
     ensures { λ r. ⌜ r ≡ nextTally n j ⌝ }
 {
     if j == 0 {
@@ -42,7 +43,7 @@ fn next_tally(n: u64, j: u64) -> u64
 // and the latch's range.
 fn tally(s: &mut [u64], e: u64, j: u64)
     requires { ⌜ (words ≤ length (now s)) × Firable (read (now s)) e × Countable (read (now s)) e j ⌝ }
-    ensures { λ r. ⌜ Wrote (now (s .entry)) (now (s .exit)) (rules.tally (read (now (s .entry))) e j) ⌝ }
+    ensures { λ r. ⌜ Becomes s (rules.tally (was s) e j) ⌝ }
 {
     let at = e as usize;
     let n = next_tally(session::get(s, Field::EventTally, at), j);
@@ -55,7 +56,7 @@ fn tally(s: &mut [u64], e: u64, j: u64)
 // Satisfies slot j of event e with p. Internal: callers have shown the length, the handle, the links and, of a latch, its range.
 fn satisfy_event(s: &mut [u64], e: u64, j: u64, p: u64)
     requires { ⌜ (words ≤ length (now s)) × Triggerable (read (now s)) e j ⌝ }
-    ensures { λ r. ⌜ Wrote (now (s .entry)) (now (s .exit)) (rules.satisfyEvent (read (now (s .entry))) e j p) ⌝ }
+    ensures { λ r. ⌜ Becomes s (rules.satisfyEvent (was s) e j p) ⌝ }
 {
     let at = e as usize;
     if session::get(s, Field::EventType, at) == session::names::LATCH {
@@ -71,7 +72,7 @@ fn satisfy_event(s: &mut [u64], e: u64, j: u64, p: u64)
 // Satisfies slot j of task or event d with p. Internal: callers have shown the length and what `Satisfiable` says.
 pub fn satisfy_either(s: &mut [u64], d: u64, j: u64, p: u64)
     requires { ⌜ (words ≤ length (now s)) × Satisfiable (read (now s)) d j ⌝ }
-    ensures { λ r. ⌜ Wrote (now (s .entry)) (now (s .exit)) (rules.satisfy (read (now (s .entry))) d j p) ⌝ }
+    ensures { λ r. ⌜ Becomes s (rules.satisfy (was s) d j p) ⌝ }
 {
     if session::get(s, Field::Kind, d as usize) == session::names::TASK {
         satisfy_slot(s, d, j, p);
@@ -83,7 +84,7 @@ pub fn satisfy_either(s: &mut [u64], d: u64, j: u64, p: u64)
 // 6 satisfy (caller, event, block or 0, slot). Internal: callers have shown the length, a sound session and the checks.
 pub fn satisfy(s: &mut [u64], caller: u64, e: u64, b: u64, j: u64)
     requires { ⌜ (words ≤ length (now s)) × holds (sound (read (now s))) × met (satisfyChecks (read (now s)) caller e b j) ⌝ }
-    ensures { λ r. ⌜ Wrote (now (s .entry)) (now (s .exit)) (rules.satisfyEvent (read (now (s .entry))) e j b) ⌝ }
+    ensures { λ r. ⌜ Becomes s (rules.satisfyEvent (was s) e j b) ⌝ }
 {
     satisfy_event(s, e, j, b);
 }

@@ -7,6 +7,8 @@ use mathlib.Core.List.{List}
 use lib.ListN.{length, List·getD-eq-default}
 use lib.Dec.{leb}
 use borrow.Author.Tests.{le-leb, lt-leb}
+use denote.Ref.{RefT}
+use denote.Triple.Both.{Both}
 use Rattle.session.specs.Table.{Session, Wrote, read, words, pick}
 use Rattle.session.specs.TableLaws.{wrote-none}
 use Rattle.rules.specs.declared.Operation.{Operation}
@@ -14,7 +16,7 @@ use Rattle.rules.specs.declared.Answer.{Answer}
 use Rattle.rules.specs.declared.Answer.the-variants.{Accepted, Refused}
 use Rattle.rules.specs.Formula.{holds, test, choose, Formula._≐_}
 use Rattle.rules.specs.FormulaLaws.{choose-yes, choose-no, passed, failed}
-use Rattle.rules.specs.Checks.{Check, refusal}
+use Rattle.rules.specs.Checks.{refusal}
 use Rattle.rules.specs.Answer.{refusedOf, madeOf, answerOf, answer-accepted, answer-refused, refused-told, made-told}
 use Rattle.rules.specs.Sound.{sound}
 use Rattle.rules.specs.Step.{Reply, Rule, rules, lastCode, ruleOf, unknown, answer, after, outcome, step}
@@ -35,64 +37,72 @@ abbrev pub Answered : List ℕ → List ℕ → Operation → Answer → Type 0
 Answered before after op r =
     pick (leb words (length before)) (Replied before after r (step (read before) op)) ((r ≡ Refused 1) × (after ≡ before))
 
--- an operation with these checks, effect and number made, on a sound session: the first check that fails, or what it does and makes
-unfoldable pub replyBy : Session → List Check → Session → ℕ → Reply
-replyBy s checks does makes =
-    record { refused = refusal checks; made = choose (refusal checks ≐ 0) makes 0; leaves = choose (refusal checks ≐ 0) does s }
+-- an operation by its row, on a sound session: the first check that fails, or what it does and makes
+unfoldable pub replyBy : Rule → Session → Operation → Reply
+replyBy rule s o =
+    let refused = refusal (rule .asks s o) in
+    record { refused = refused; made = choose (refused ≐ 0) (rule .makes s o) 0; leaves = choose (refused ≐ 0) (rule .does s o) s }
 
-abbrev pub Played : List ℕ → List ℕ → Answer → List Check → Session → ℕ → Type 0
-Played before after r checks does makes = Replied before after r (replyBy (read before) checks does makes)
+abbrev pub Played : Rule → Operation → List ℕ → List ℕ → Answer → Type 0
+Played rule o before after r = Replied before after r (replyBy rule (read before) o)
 
 -- the operation of a code and its fields
 abbrev pub operationOf : ℕ → List ℕ → Operation
 operationOf code fields = record { code = code; fields = fields }
 
-abbrev pub PlayedBy : List ℕ → List ℕ → Answer → ℕ → List ℕ → Type 0
-PlayedBy before after r code fields =
-    let o = operationOf code fields in
-    Played before after r (ruleOf o .asks (read before) o) (ruleOf o .does (read before) o) (ruleOf o .makes (read before) o)
+-- What the function of a row promises of the words lent to it, called with these fields: its row looks at no code.
+abbrev pub Plays : Rule → List ℕ → Both (RefT (List ℕ)) (RefT (List ℕ)) → Answer → Type 0
+Plays rule fields s r = Played rule (operationOf 0 fields) (s .entry .now) (s .exit .now) r
+
+-- the operation of this code, by the row that it has
+abbrev pub PlayedBy : ℕ → List ℕ → List ℕ → List ℕ → Answer → Type 0
+PlayedBy code fields = let o = operationOf code fields in Played (ruleOf o) o
+
+-- What a function promises that takes the code too.
+abbrev pub PlaysCode : ℕ → List ℕ → Both (RefT (List ℕ)) (RefT (List ℕ)) → Answer → Type 0
+PlaysCode code fields s r = PlayedBy code fields (s .entry .now) (s .exit .now) r
 
 -- a refusal
-pub played-refused : (ws : List ℕ) (n : ℕ) (checks : List Check) (does : Session) (makes : ℕ) → n ≡ refusal checks → (n ≡ 0 → ⊥)
-    → Played ws ws (Refused n) checks does makes
+pub played-refused : (rule : Rule) (o : Operation) (ws : List ℕ) (n : ℕ) → n ≡ refusal (rule .asks (read ws) o) → (n ≡ 0 → ⊥)
+    → Played rule o ws ws (Refused n)
 unfolding replyBy
-played-refused ws n checks does makes e z =
+played-refused rule o ws n e z =
+    let checks = rule .asks (read ws) o in
     let f : refusal checks ≡ 0 → ⊥ = λ q. z (e ∙ q) in
     record {
-      answer = ap Refused e ∙ sym (answer-refused (replyBy (read ws) checks does makes) f);
-      leaves = rw (choose-no (refusal checks ≐ 0) does (read ws) f) (wrote-none ws);
+      answer = ap Refused e ∙ sym (answer-refused (replyBy rule (read ws) o) f);
+      leaves = rw (choose-no (refusal checks ≐ 0) (rule .does (read ws) o) (read ws) f) (wrote-none ws);
       stays = λ _. refl;
     }
 
 -- an operation accepted
-pub played-accepted : (before after : List ℕ) (m : ℕ) (checks : List Check) (does : Session) (makes : ℕ) → refusal checks ≡ 0
-    → m ≡ makes
-    → Wrote before after does → Played before after (Accepted m) checks does makes
+pub played-accepted : (rule : Rule) (o : Operation) (before after : List ℕ) (m : ℕ) → refusal (rule .asks (read before) o) ≡ 0
+    → m ≡ rule .makes (read before) o → Wrote before after (rule .does (read before) o) → Played rule o before after (Accepted m)
 unfolding replyBy
-played-accepted before after m checks does makes e q w =
-    let made = q ∙ sym (choose-yes (refusal checks ≐ 0) makes 0 e) in
+played-accepted rule o before after m e q w =
+    let s = read before in
+    let accepted = refusal (rule .asks s o) ≐ 0 in
     record {
-      answer = ap Accepted made ∙ sym (answer-accepted (replyBy (read before) checks does makes) e);
-      leaves = rw (choose-yes (refusal checks ≐ 0) does (read before) e) w;
+      answer = ap Accepted (q ∙ sym (choose-yes accepted (rule .makes s o) 0 e)) ∙ sym (answer-accepted (replyBy rule s o) e);
+      leaves = rw (choose-yes accepted (rule .does s o) s e) w;
       stays = λ n. absurd (n e);
     }
 
 -- a code that there is not
-pub played-unknown : (ws : List ℕ) (code : ℕ) (fields : List ℕ) → lastCode < code → PlayedBy ws ws (Refused 6) code fields
+pub played-unknown : (ws : List ℕ) (code : ℕ) (fields : List ℕ) → lastCode < code → PlayedBy code fields ws ws (Refused 6)
 unfolding rules refusal test
 played-unknown ws code fields h =
     let o = operationOf code fields in
     let e : ruleOf o ≡ unknown = List·getD-eq-default rules unknown h in
-    subst (λ (r : Rule). Played ws ws (Refused 6) (r .asks (read ws) o) (r .does (read ws) o) (r .makes (read ws) o)) (sym e)
-    (played-refused ws 6 (unknown .asks (read ws) o) (read ws) 0 refl (λ z. omega arith))
+    subst (λ (r : Rule). Played r o ws ws (Refused 6)) (sym e) (played-refused unknown o ws 6 refl (λ z. omega arith))
 
-pub played-none : (ws : List ℕ) (code : ℕ) (fields : List ℕ) → code ≡ 0 → PlayedBy ws ws (Refused 6) code fields
+pub played-none : (ws : List ℕ) (code : ℕ) (fields : List ℕ) → code ≡ 0 → PlayedBy code fields ws ws (Refused 6)
 unfolding rules refusal test
-played-none ws code fields e = rw e (played-refused ws 6 _ _ _ refl (λ z. omega arith))
+played-none ws code fields e = rw e (played-refused unknown (operationOf 0 fields) ws 6 refl (λ z. omega arith))
 
 -- from the operation's checks and effect to one step of a sound session
 pub replied : (before after : List ℕ) (r : Answer) (op : Operation) → holds (sound (read before))
-    → PlayedBy before after r (op .code) (op .fields)
+    → PlayedBy (op .code) (op .fields) before after r
     → Replied before after r (step (read before) op)
 unfolding replyBy answer after outcome
 replied before after r op h p = rw (step-sound (read before) op h) p

@@ -1,21 +1,18 @@
 // The operations, each with its checks and then its effect. Internal: callers have shown the length and a sound session.
 use rules::Answer;
 use rules::refusals;
-ghost use Prim.Native.Nat.{_+_, _≤_, _<_};
+ghost use Prim.Native.Nat.{_≤_, _<_};
+ghost use mathlib.Core.List.{[], _∷_};
 ghost use lib.ListN.{length};
 ghost use Rattle.session.specs.Table.{read, words};
-ghost use Rattle.session.specs.declared.Field.the-variants.{Objects, Links};
-ghost use Rattle.rules.specs.Formula.{holds, choose};
+ghost use Rattle.rules.specs.Formula.{holds};
 ghost use Rattle.rules.specs.Sound.{sound};
-ghost use Rattle.rules.specs.Checks.{templateChecks, taskChecks, eventChecks, blockChecks, dependenceChecks, satisfyChecks, releaseChecks, destroyChecks, deliverChecks, grantChecks, startChecks, endChecks, taskSlots, makesLink};
-ghost use Rattle.rules.specs.Effects as effect;
-ghost use Rattle.engine.specs.Played.{Played, PlayedBy};
+ghost use Rattle.rules.specs.Step.{templateRule, taskRule, eventRule, blockRule, dependenceRule, satisfyRule, releaseRule, destroyRule, deliverRule, grantRule, startRule, endRule};
+ghost use Rattle.engine.specs.Played.{Plays, PlaysCode};
 
 pub fn template(s: &mut [u64], caller: u64, n: u64) -> Answer
     requires { ⌜ (words ≤ length (now s)) × holds (sound (read (now s))) ⌝ }
-    ensures { λ r. ⌜
-        Played (now (s .entry)) (now (s .exit)) r (templateChecks (read (now (s .entry))) caller n) (effect.newTemplate (read (now (s .entry))) n) ((read (now (s .entry))) Objects 0 + 1)
-        ⌝ }
+    ensures { λ r. ⌜ Plays templateRule (caller ∷ n ∷ []) s r ⌝ }
 {
     let refused = checks::template_refusal(s, caller, n);
     if refused != 0 {
@@ -26,9 +23,7 @@ pub fn template(s: &mut [u64], caller: u64, n: u64) -> Answer
 
 pub fn task(s: &mut [u64], caller: u64, tm: u64, n: u64, finish: u64, out: u64) -> Answer
     requires { ⌜ (words ≤ length (now s)) × holds (sound (read (now s))) ⌝ }
-    ensures { λ r. ⌜
-        Played (now (s .entry)) (now (s .exit)) r (taskChecks (read (now (s .entry))) caller tm n finish out) (effect.makeTask (read (now (s .entry))) caller (taskSlots (read (now (s .entry))) tm n) finish out) ((read (now (s .entry))) Objects 0 + 1)
-        ⌝ }
+    ensures { λ r. ⌜ Plays taskRule (caller ∷ tm ∷ n ∷ finish ∷ out ∷ []) s r ⌝ }
 {
     let refused = checks::task_refusal(s, caller, tm, n, finish, out);
     if refused != 0 {
@@ -39,9 +34,7 @@ pub fn task(s: &mut [u64], caller: u64, tm: u64, n: u64, finish: u64, out: u64) 
 
 pub fn event(s: &mut [u64], caller: u64, ty: u64) -> Answer
     requires { ⌜ (words ≤ length (now s)) × holds (sound (read (now s))) ⌝ }
-    ensures { λ r. ⌜
-        Played (now (s .entry)) (now (s .exit)) r (eventChecks (read (now (s .entry))) caller ty) (effect.newEvent (read (now (s .entry))) ((read (now (s .entry))) Objects 0 + 1) ty) ((read (now (s .entry))) Objects 0 + 1)
-        ⌝ }
+    ensures { λ r. ⌜ Plays eventRule (caller ∷ ty ∷ []) s r ⌝ }
 {
     let refused = checks::event_refusal(s, caller, ty);
     if refused != 0 {
@@ -52,9 +45,7 @@ pub fn event(s: &mut [u64], caller: u64, ty: u64) -> Answer
 
 pub fn block(s: &mut [u64], caller: u64, hold: u64) -> Answer
     requires { ⌜ (words ≤ length (now s)) × holds (sound (read (now s))) ⌝ }
-    ensures { λ r. ⌜
-        Played (now (s .entry)) (now (s .exit)) r (blockChecks (read (now (s .entry))) caller hold) (effect.newBlock (read (now (s .entry))) caller hold) ((read (now (s .entry))) Objects 0 + 1)
-        ⌝ }
+    ensures { λ r. ⌜ Plays blockRule (caller ∷ hold ∷ []) s r ⌝ }
 {
     let refused = checks::block_refusal(s, caller, hold);
     if refused != 0 {
@@ -65,9 +56,7 @@ pub fn block(s: &mut [u64], caller: u64, hold: u64) -> Answer
 
 pub fn dependence(s: &mut [u64], caller: u64, source: u64, d: u64, j: u64, mode: u64) -> Answer
     requires { ⌜ (words ≤ length (now s)) × holds (sound (read (now s))) ⌝ }
-    ensures { λ r. ⌜
-        Played (now (s .entry)) (now (s .exit)) r (dependenceChecks (read (now (s .entry))) caller source d j mode) (effect.depend (read (now (s .entry))) source d j mode) (choose (makesLink (read (now (s .entry))) source) ((read (now (s .entry))) Links 0 + 1) 0)
-        ⌝ }
+    ensures { λ r. ⌜ Plays dependenceRule (caller ∷ source ∷ d ∷ j ∷ mode ∷ []) s r ⌝ }
 {
     let refused = checks::dependence_refusal(s, caller, source, d, j, mode);
     if refused != 0 {
@@ -78,9 +67,7 @@ pub fn dependence(s: &mut [u64], caller: u64, source: u64, d: u64, j: u64, mode:
 
 pub fn satisfy(s: &mut [u64], caller: u64, e: u64, b: u64, j: u64) -> Answer
     requires { ⌜ (words ≤ length (now s)) × holds (sound (read (now s))) ⌝ }
-    ensures { λ r. ⌜
-        Played (now (s .entry)) (now (s .exit)) r (satisfyChecks (read (now (s .entry))) caller e b j) (effect.satisfyEvent (read (now (s .entry))) e j b) (0)
-        ⌝ }
+    ensures { λ r. ⌜ Plays satisfyRule (caller ∷ e ∷ b ∷ j ∷ []) s r ⌝ }
 {
     let refused = checks::satisfy_refusal(s, caller, e, b, j);
     if refused != 0 {
@@ -92,9 +79,7 @@ pub fn satisfy(s: &mut [u64], caller: u64, e: u64, b: u64, j: u64) -> Answer
 
 pub fn release(s: &mut [u64], caller: u64, b: u64) -> Answer
     requires { ⌜ (words ≤ length (now s)) × holds (sound (read (now s))) ⌝ }
-    ensures { λ r. ⌜
-        Played (now (s .entry)) (now (s .exit)) r (releaseChecks (read (now (s .entry))) caller b) (effect.release (read (now (s .entry))) caller b) (0)
-        ⌝ }
+    ensures { λ r. ⌜ Plays releaseRule (caller ∷ b ∷ []) s r ⌝ }
 {
     let refused = checks::release_refusal(s, caller, b);
     if refused != 0 {
@@ -106,9 +91,7 @@ pub fn release(s: &mut [u64], caller: u64, b: u64) -> Answer
 
 pub fn destroy(s: &mut [u64], caller: u64, h: u64) -> Answer
     requires { ⌜ (words ≤ length (now s)) × holds (sound (read (now s))) ⌝ }
-    ensures { λ r. ⌜
-        Played (now (s .entry)) (now (s .exit)) r (destroyChecks (read (now (s .entry))) caller h) (effect.destroy (read (now (s .entry))) caller h) (0)
-        ⌝ }
+    ensures { λ r. ⌜ Plays destroyRule (caller ∷ h ∷ []) s r ⌝ }
 {
     let refused = checks::destroy_refusal(s, caller, h);
     if refused != 0 {
@@ -120,9 +103,7 @@ pub fn destroy(s: &mut [u64], caller: u64, h: u64) -> Answer
 
 pub fn deliver(s: &mut [u64], l: u64) -> Answer
     requires { ⌜ (words ≤ length (now s)) × holds (sound (read (now s))) ⌝ }
-    ensures { λ r. ⌜
-        Played (now (s .entry)) (now (s .exit)) r (deliverChecks (read (now (s .entry))) l) (effect.deliver (read (now (s .entry))) l) (0)
-        ⌝ }
+    ensures { λ r. ⌜ Plays deliverRule (l ∷ []) s r ⌝ }
 {
     let refused = checks::deliver_refusal(s, l);
     if refused != 0 {
@@ -134,9 +115,7 @@ pub fn deliver(s: &mut [u64], l: u64) -> Answer
 
 pub fn grant(s: &mut [u64], t: u64) -> Answer
     requires { ⌜ (words ≤ length (now s)) × holds (sound (read (now s))) ⌝ }
-    ensures { λ r. ⌜
-        Played (now (s .entry)) (now (s .exit)) r (grantChecks (read (now (s .entry))) t) (effect.grant (read (now (s .entry))) t) (0)
-        ⌝ }
+    ensures { λ r. ⌜ Plays grantRule (t ∷ []) s r ⌝ }
 {
     let refused = checks::grant_refusal(s, t);
     if refused != 0 {
@@ -148,9 +127,7 @@ pub fn grant(s: &mut [u64], t: u64) -> Answer
 
 pub fn start(s: &mut [u64], t: u64) -> Answer
     requires { ⌜ (words ≤ length (now s)) × holds (sound (read (now s))) ⌝ }
-    ensures { λ r. ⌜
-        Played (now (s .entry)) (now (s .exit)) r (startChecks (read (now (s .entry))) t) (effect.start (read (now (s .entry))) t) (0)
-        ⌝ }
+    ensures { λ r. ⌜ Plays startRule (t ∷ []) s r ⌝ }
 {
     let refused = checks::start_refusal(s, t);
     if refused != 0 {
@@ -162,9 +139,7 @@ pub fn start(s: &mut [u64], t: u64) -> Answer
 
 pub fn end(s: &mut [u64], t: u64, b: u64) -> Answer
     requires { ⌜ (words ≤ length (now s)) × holds (sound (read (now s))) ⌝ }
-    ensures { λ r. ⌜
-        Played (now (s .entry)) (now (s .exit)) r (endChecks (read (now (s .entry))) t b) (effect.end (read (now (s .entry))) t b) (0)
-        ⌝ }
+    ensures { λ r. ⌜ Plays endRule (t ∷ b ∷ []) s r ⌝ }
 {
     let refused = checks::end_refusal(s, t, b);
     if refused != 0 {
@@ -177,7 +152,7 @@ pub fn end(s: &mut [u64], t: u64, b: u64) -> Answer
 // Codes below 5: what makes objects.
 pub fn make(s: &mut [u64], code: u64, f: [u64; 5]) -> Answer
     requires { ⌜ (words ≤ length (now s)) × holds (sound (read (now s))) × (code < 5) ⌝ }
-    ensures { λ r. ⌜ PlayedBy (now (s .entry)) (now (s .exit)) r code f ⌝ }
+    ensures { λ r. ⌜ PlaysCode code f s r ⌝ }
 {
     match code {
         1 => template(s, f[0], f[1]),
@@ -191,7 +166,7 @@ pub fn make(s: &mut [u64], code: u64, f: [u64; 5]) -> Answer
 // Codes 5 to 8: the other calls of a running task.
 pub fn call(s: &mut [u64], code: u64, f: [u64; 5]) -> Answer
     requires { ⌜ (words ≤ length (now s)) × holds (sound (read (now s))) × (5 ≤ code) × (code < 9) ⌝ }
-    ensures { λ r. ⌜ PlayedBy (now (s .entry)) (now (s .exit)) r code f ⌝ }
+    ensures { λ r. ⌜ PlaysCode code f s r ⌝ }
 {
     match code {
         5 => dependence(s, f[0], f[1], f[2], f[3], f[4]),
@@ -204,7 +179,7 @@ pub fn call(s: &mut [u64], code: u64, f: [u64; 5]) -> Answer
 // Codes from 9 on: the moves, which have no caller, and the codes that there are not.
 pub fn move_on(s: &mut [u64], code: u64, f: [u64; 5]) -> Answer
     requires { ⌜ (words ≤ length (now s)) × holds (sound (read (now s))) × (9 ≤ code) ⌝ }
-    ensures { λ r. ⌜ PlayedBy (now (s .entry)) (now (s .exit)) r code f ⌝ }
+    ensures { λ r. ⌜ PlaysCode code f s r ⌝ }
 {
     match code {
         9 => deliver(s, f[0]),

@@ -39,7 +39,7 @@ module _ (ws : List ℕ) (good : holds (sound (read ws))) where
     where
       part : holds (blockPart s b) → (s BlockState b ≡ 0) × (s BlockHeld b ≡ 0)
       part (inl x) = let z = unmade b l in let k = x .0 in absurd (omega arith)
-      part (inr x) = (x .1 .0, x .1 .1 .1)
+      part (inr (other, (no-state, (no-creator, not-held)))) = (no-state, not-held)
 
       go : Dec (b < objectPlaces) → (s BlockState b ≡ 0) × (s BlockHeld b ≡ 0)
       go (yes h) = part (r blockParts b h)
@@ -71,4 +71,4 @@ module _ (ws : List ℕ) (good : holds (sound (read ws))) where
 
       go : holds (slot s h j) → (granted ≤ s TaskState h) × (s TaskState h ≤ running)
       go (inl x) = either (state-by-name h s (r states h (omega arith) (x .0)) slot-holds j (x .1 .0) .1 e .1)
-      go (inr x) = let z = x .1 .1 .0 in absurd (omega arith)
+      go (inr (past, (no-mode, (no-mark, no-payload)))) = absurd (omega arith)

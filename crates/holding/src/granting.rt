@@ -4,7 +4,8 @@ use session::names;
 ghost use Prim.Native.Nat.{_+_, _*_, _≤_, _<_};
 ghost use lib.ListN.{length};
 ghost use Rattle.session.specs.Names.{mostObjects};
-ghost use Rattle.session.specs.Table.{Wrote, read, put, words};
+ghost use Rattle.session.specs.Table.{read, put, words};
+ghost use Rattle.session.specs.Lent.{was, Becomes};
 ghost use Rattle.session.specs.declared.Field.the-variants.{SlotMark};
 ghost use Rattle.rules.specs.Formula.{holds};
 ghost use Rattle.rules.specs.Sound.{sound};
@@ -17,9 +18,7 @@ ghost use Rattle.holding.specs.GrantedSlots.{grantRow, slotsGranted};
 // Slot j of task t is held if it has a block. Internal: callers have shown the length and the slot.
 fn hold_slot(s: &mut [u64], t: u64, j: u64)
     requires { ⌜ (words ≤ length (now s)) × (t ≤ mostObjects) × (j < 16) ⌝ }
-    ensures { λ r. ⌜
-        Wrote (now (s .entry)) (now (s .exit)) (put (read (now (s .entry))) SlotMark (t * 16 + j) (grantRow t (t * 16 + j) (row (read (now (s .entry))) (t * 16 + j))))
-        ⌝ }
+    ensures { λ r. ⌜ Becomes s (put (was s) SlotMark (t * 16 + j) (grantRow t (t * 16 + j) (row (was s) (t * 16 + j)))) ⌝ }
 {
     let i = (t * 16 + j) as usize;
     if 1 <= session::get(s, Field::SlotPayload, i) {
@@ -30,7 +29,7 @@ fn hold_slot(s: &mut [u64], t: u64, j: u64)
 // Every slot of task t that has a block is held. Internal, as `hold_slot` is.
 fn hold_slots(s: &mut [u64], t: u64)
     requires { ⌜ (words ≤ length (now s)) × (t ≤ mostObjects) ⌝ }
-    ensures { λ r. ⌜ Wrote (now (s .entry)) (now (s .exit)) (slotsGranted (read (now (s .entry))) t) ⌝ }
+    ensures { λ r. ⌜ Becomes s (slotsGranted (was s) t) ⌝ }
 {
     let mut j: u64 = 0;
     while j < 16 {
@@ -42,7 +41,7 @@ fn hold_slots(s: &mut [u64], t: u64)
 // 10 grant (task): it gets its blocks, all together. Internal: callers have shown the length, a sound session and the checks.
 pub fn grant(s: &mut [u64], t: u64)
     requires { ⌜ (words ≤ length (now s)) × holds (sound (read (now s))) × met (grantChecks (read (now s)) t) ⌝ }
-    ensures { λ r. ⌜ Wrote (now (s .entry)) (now (s .exit)) (grant (read (now (s .entry))) t) ⌝ }
+    ensures { λ r. ⌜ Becomes s (grant (was s) t) ⌝ }
 {
     hold_slots(s, t);
     session::set(s, Field::TaskState, t as usize, names::GRANTED);
@@ -51,7 +50,7 @@ pub fn grant(s: &mut [u64], t: u64)
 // 11 start (task). Internal, as `grant` is.
 pub fn start(s: &mut [u64], t: u64)
     requires { ⌜ (words ≤ length (now s)) × holds (sound (read (now s))) × met (startChecks (read (now s)) t) ⌝ }
-    ensures { λ r. ⌜ Wrote (now (s .entry)) (now (s .exit)) (start (read (now (s .entry))) t) ⌝ }
+    ensures { λ r. ⌜ Becomes s (start (was s) t) ⌝ }
 {
     session::set(s, Field::TaskState, t as usize, names::RUNNING);
 }

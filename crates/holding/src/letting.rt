@@ -5,7 +5,8 @@ ghost use mathlib.Core.Path.{_≡_};
 ghost use Prim.Native.Nat.{_+_, _*_, _≤_, _<_};
 ghost use lib.ListN.{length};
 ghost use Rattle.session.specs.Names.{mostObjects};
-ghost use Rattle.session.specs.Table.{Wrote, read, put, words};
+ghost use Rattle.session.specs.Table.{read, put, words};
+ghost use Rattle.session.specs.Lent.{was, Becomes};
 ghost use Rattle.session.specs.declared.Field.the-variants.{Objects, BlockHeld, BlockState, SlotMark};
 ghost use Rattle.rules.specs.Formula.{holds, Formula._≐_};
 ghost use Rattle.rules.specs.Sound.{sound};
@@ -35,9 +36,7 @@ fn mark_after(mark: u64, payload: u64, b: u64) -> u64
 // Slot j of task t lets go of block b, or of any where b is 0. Internal: callers have shown the length and the slot.
 fn drop_slot(s: &mut [u64], t: u64, b: u64, j: u64)
     requires { ⌜ (words ≤ length (now s)) × (t ≤ mostObjects) × (j < 16) ⌝ }
-    ensures { λ r. ⌜
-        Wrote (now (s .entry)) (now (s .exit)) (put (read (now (s .entry))) SlotMark (t * 16 + j) (markRow t b (t * 16 + j) (row (read (now (s .entry))) (t * 16 + j))))
-        ⌝ }
+    ensures { λ r. ⌜ Becomes s (put (was s) SlotMark (t * 16 + j) (markRow t b (t * 16 + j) (row (was s) (t * 16 + j)))) ⌝ }
 {
     let i = (t * 16 + j) as usize;
     let mark = session::get(s, Field::SlotMark, i);
@@ -48,7 +47,7 @@ fn drop_slot(s: &mut [u64], t: u64, b: u64, j: u64)
 // The slots of task t let go of block b, or of all where b is 0. Internal, as `drop_slot` is.
 fn drop_slots(s: &mut [u64], t: u64, b: u64)
     requires { ⌜ (words ≤ length (now s)) × (t ≤ mostObjects) ⌝ }
-    ensures { λ r. ⌜ Wrote (now (s .entry)) (now (s .exit)) (slotsLetGo (read (now (s .entry))) t b) ⌝ }
+    ensures { λ r. ⌜ Becomes s (slotsLetGo (was s) t b) ⌝ }
 {
     let mut j: u64 = 0;
     while j < 16 {
@@ -60,9 +59,7 @@ fn drop_slots(s: &mut [u64], t: u64, b: u64)
 // Block b is no longer held from its creation if t made it. Internal: callers have shown the length and the handle.
 fn drop_made(s: &mut [u64], t: u64, b: u64)
     requires { ⌜ (words ≤ length (now s)) × (b ≤ mostObjects) ⌝ }
-    ensures { λ r. ⌜
-        Wrote (now (s .entry)) (now (s .exit)) (put (read (now (s .entry))) BlockHeld b (madeRow t b (row (read (now (s .entry))) b)))
-        ⌝ }
+    ensures { λ r. ⌜ Becomes s (put (was s) BlockHeld b (madeRow t b (row (was s) b))) ⌝ }
 {
     let at = b as usize;
     if session::get(s, Field::BlockCreator, at) == t {
@@ -74,7 +71,7 @@ fn drop_made(s: &mut [u64], t: u64, b: u64)
 // of objects are empty.
 fn drop_all_made(s: &mut [u64], t: u64)
     requires { ⌜ (words ≤ length (now s)) × (read (now s) Objects 0 ≤ mostObjects) × Unheld (read (now s)) ⌝ }
-    ensures { λ r. ⌜ Wrote (now (s .entry)) (now (s .exit)) (madeLetGo (read (now (s .entry))) t) ⌝ }
+    ensures { λ r. ⌜ Becomes s (madeLetGo (was s) t) ⌝ }
 {
     let n = session::get(s, Field::Objects, 0);
     let mut b: u64 = 0;
@@ -87,9 +84,7 @@ fn drop_all_made(s: &mut [u64], t: u64)
 // Block b is destroyed if it is doomed and nobody holds it. Internal, as `is_held` is.
 fn bury(s: &mut [u64], b: u64)
     requires { ⌜ (words ≤ length (now s)) × (read (now s) Objects 0 ≤ mostObjects) × (b ≤ mostObjects) × Active (read (now s)) ⌝ }
-    ensures { λ r. ⌜
-        Wrote (now (s .entry)) (now (s .exit)) (put (read (now (s .entry))) BlockState b (buried (read (now (s .entry))) b))
-        ⌝ }
+    ensures { λ r. ⌜ Becomes s (put (was s) BlockState b (buried (was s) b)) ⌝ }
 {
     if session::get(s, Field::BlockState, b as usize) == names::DOOMED {
         if reading::is_held(s, b) {
@@ -103,7 +98,7 @@ fn bury(s: &mut [u64], b: u64)
 fn bury_all(s: &mut [u64])
     requires { ⌜ (words ≤ length (now s)) × (read (now s) Objects 0 ≤ mostObjects) × Unmarked (read (now s))
         × Active (read (now s)) ⌝ }
-    ensures { λ r. ⌜ Wrote (now (s .entry)) (now (s .exit)) (buryDoomed (read (now (s .entry)))) ⌝ }
+    ensures { λ r. ⌜ Becomes s (buryDoomed (was s)) ⌝ }
 {
     let n = session::get(s, Field::Objects, 0);
     let mut b: u64 = 0;
@@ -118,7 +113,7 @@ fn bury_all(s: &mut [u64])
 pub fn let_go_block(s: &mut [u64], t: u64, b: u64)
     requires { ⌜ (words ≤ length (now s)) × (read (now s) Objects 0 ≤ mostObjects) × (t ≤ mostObjects) × (1 ≤ b)
         × (b ≤ mostObjects) × Doomed (read (now s)) × Active (read (now s)) ⌝ }
-    ensures { λ r. ⌜ Wrote (now (s .entry)) (now (s .exit)) (release (read (now (s .entry))) t b) ⌝ }
+    ensures { λ r. ⌜ Becomes s (release (was s) t b) ⌝ }
 {
     drop_slots(s, t, b);
     drop_made(s, t, b);
@@ -130,7 +125,7 @@ pub fn let_go_block(s: &mut [u64], t: u64, b: u64)
 pub fn let_go_all(s: &mut [u64], t: u64)
     requires { ⌜ (words ≤ length (now s)) × (read (now s) Objects 0 ≤ mostObjects) × (t ≤ mostObjects) × Unheld (read (now s))
         × Unmarked (read (now s)) × Active (read (now s)) ⌝ }
-    ensures { λ r. ⌜ Wrote (now (s .entry)) (now (s .exit)) (letGo (read (now (s .entry))) t (λ k. 0 ≐ 0)) ⌝ }
+    ensures { λ r. ⌜ Becomes s (letGo (was s) t (λ k. 0 ≐ 0)) ⌝ }
 {
     drop_slots(s, t, 0);
     drop_all_made(s, t);
@@ -141,7 +136,7 @@ pub fn let_go_all(s: &mut [u64], t: u64)
 // checks.
 pub fn release(s: &mut [u64], caller: u64, b: u64)
     requires { ⌜ (words ≤ length (now s)) × holds (sound (read (now s))) × met (releaseChecks (read (now s)) caller b) ⌝ }
-    ensures { λ r. ⌜ Wrote (now (s .entry)) (now (s .exit)) (release (read (now (s .entry))) caller b) ⌝ }
+    ensures { λ r. ⌜ Becomes s (release (was s) caller b) ⌝ }
 {
     let_go_block(s, caller, b);
 }

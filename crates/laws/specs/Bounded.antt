@@ -10,11 +10,12 @@ use Rattle.session.specs.Names.{resolved, granted, running, delivered}
 use Rattle.rules.specs.declared.Operation.{Operation}
 use Rattle.rules.specs.Formula.{holds, Formula._≐_}
 use Rattle.rules.specs.FormulaLaws.{choose-yes, choose-no}
-use Rattle.rules.specs.Reading.{isUndelivered, undeliveredLinks}
+use Rattle.rules.specs.Reading.{isUndelivered}
 use Rattle.rules.specs.Sound.{kept}
 use Rattle.rules.specs.Step.{step}
 use Rattle.rules.specs.Demand.{accepted, next, acceptedOf, AllMove, AllMove.none, AllMove.one}
 use Rattle.rules.specs.Book.{Book, live, liveTasks, undelivered as unstruck, undeliveredLinks as unstruckLinks}
+use Rattle.rules.specs.LastLine.{undeliveredLinks}
 use Rattle.laws.specs.Rows.Name.{freeLinks}
 use Rattle.laws.specs.ByName.{by-name}
 use Rattle.laws.specs.Conjuncts.{no-link}

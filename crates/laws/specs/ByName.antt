@@ -1,7 +1,7 @@
 -- The formulas `kept` and `sound` and the rules by name say the same. Here and in Parts alone a rule is found by its place.
 use mathlib.Core.List.{[], _∷_}
 use Rattle.session.specs.Table.{Session}
-use Rattle.rules.specs.Formula.{holds, Formula._and_}
+use Rattle.rules.specs.Formula.{holds}
 use Rattle.rules.specs.Sound as rule
 use Rattle.rules.specs.Sound.{kept, sound, soundUsed}
 use Rattle.laws.specs.Parts.{kinds-of, templateParts-of, taskParts-of, eventParts-of, blockParts-of, freeSlots-of}
@@ -32,39 +32,20 @@ pub record Rules (s : Session) : Type 0 where
 
 pub rules-of : (s : Session) → holds (sound s) → Rules s
 unfolding sound soundUsed
-rules-of s ((c, (o, (r, (m, (u, (t, (l, (one, (st, (b, (co, (la, d)))))))))))), past) =
-    record {
-      counts = c;
-      objects = o;
-      roots = r;
-      creators = m;
-      outputs = u;
-      slots = t;
-      links = l;
-      oneLink = one;
-      states = st;
-      blocks = b;
-      compatible = co;
-      latches = la;
-      dropped = d;
-      unused = past;
-    }
+rules-of s h = search
+
+-- what a conjunction says, part by part
+infixr 5 _&_
+abbrev pub _&_ : {A B : Type 0} → A → B → A × B
+a & b = (a, b)
 
 pub sound-from : (s : Session) → Rules s → holds (sound s)
 unfolding sound soundUsed
 sound-from s r = (
-  (
-    r .counts,
-    (
-      r .objects,
-      (r .roots, (r .creators, (r .outputs, (r .slots, (r .links, (r .oneLink, (r .states, more))))))),
-    ),
-  ),
+  r .counts & r .objects & r .roots & r .creators & r .outputs & r .slots & r .links & r .oneLink
+      & r .states & r .blocks & r .compatible & r .latches & r .dropped,
   r .unused,
 )
-  where
-    more : holds (rule.blocks s and rule.compatible s and rule.latches s and rule.dropped s)
-    more = (r .blocks, (r .compatible, (r .latches, r .dropped)))
 
 pub sound-by-name : (s : Session) → holds (sound s) → But (settled ∷ []) s
 sound-by-name s h = named (rules-of s h)

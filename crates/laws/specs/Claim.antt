@@ -10,13 +10,13 @@ use Rattle.session.specs.declared.Field.the-variants.{Objects, Kind, TaskSlots,
 use Rattle.session.specs.Names.{task, held, modeRW}
 use Rattle.rules.specs.Formula.{holds}
 use Rattle.rules.specs.Reading.{made, at}
-use Rattle.rules.specs.Sound.{slot, unclaimed, claimed, noSlot}
+use Rattle.rules.specs.Sound.{slot, unclaimed, claimed, noSlot, clash}
 use Rattle.laws.specs.Rows.{Name, says}
 use Rattle.laws.specs.Rows.Name.{roots, slots, compatible, freeSlots}
 use Rattle.laws.specs.Outside.{outside-same, outside-put}
 use Rattle.laws.specs.Frame.{Shown.due}
 use Rattle.laws.specs.Keeping.{but, Due, kept-by, Kept}
-use Rattle.laws.specs.Conjuncts.{roots-by-name, Root.main-mode, clashes}
+use Rattle.laws.specs.Conjuncts.{roots-by-name, Root.main-mode}
 use Rattle.laws.specs.Apart.{Apart}
 use Rattle.laws.specs.Places.{put-there}
 use Rattle.laws.specs.SlotPlaces.{same-task, same-slot}
@@ -51,7 +51,7 @@ module _ (s : Session) (t j mode : ℕ) (m : holds (made s t)) (low : j < 16) (f
   claim-compatible i l e =
       let x = h compatible i l e in (λ k b y. x .0 k b (clashed k y), rw (beside-held i e) (x .1))
     where
-      clashed : (k : ℕ) → holds (clashes (put s SlotMode (at t j) mode) i k) → holds (clashes s i k)
+      clashed : (k : ℕ) → holds (clash (put s SlotMode (at t j) mode) i k) → holds (clash s i k)
       clashed k (mark, (other, (payload, c))) = (mark, (other, (payload, rw (beside-held i e, beside-held k mark) at c)))
 
   claim-none : (i : ℕ) → s Objects 0 < i → (k : ℕ) → k < 16 → holds (noSlot s (at i k))

@@ -1,6 +1,6 @@
 -- The conjuncts of the long formulas of Sound by name, each formula a table as the rules are: what is read of one is read by
 -- name, and after a change only the conjuncts that read what it writes are shown. Here alone a conjunct is found by its place.
-use Prim.Native.Nat.{ℕ, suc, _+_, _-_, _/_, _<_}
+use Prim.Native.Nat.{ℕ, suc, _+_, _-_, _<_}
 use mathlib.Core.Path.{_≡_, refl}
 use mathlib.Core.Bool.{false}
 use mathlib.Core.List.{List, [], _∷_}
@@ -11,28 +11,24 @@ use Rattle.session.specs.declared.Field.the-variants.{Objects, Links, Kind, Tas
 use Rattle.session.specs.declared.Field.the-variants.{TaskOutput, EventState, EventType, EventPayload, EventTally, BlockState}
 use Rattle.session.specs.declared.Field.the-variants.{BlockCreator, BlockHeld, SlotMode, SlotMark, SlotPayload, LinkSource}
 use Rattle.session.specs.declared.Field.the-variants.{LinkTarget, LinkSlot, LinkState}
-use Rattle.session.specs.Names.{task, event, block, waiting, resolved, granted, running, ended, taskDestroyed, eventOpen, fired}
+use Rattle.session.specs.Names.{task, event, block, waiting, resolved, running, ended, taskDestroyed, eventOpen, fired}
 use Rattle.session.specs.Names.{destroyedUnfired, destroyedFired, linkOpen, delivered, cut, latch, output, held, topTally}
 use Rattle.session.specs.Names.{blockDestroyed, modeRW}
 use Rattle.rules.specs.Formula.{Formula, holds, not, _iff_, Formula._≐_, Formula._≼_, Formula._and_, Formula._or_}
 use Rattle.rules.specs.EventTypes.{isEventType}
 use Rattle.rules.specs.Formula.{Formula._then_}
-use Rattle.rules.specs.Formula.Formula.{each, some}
-use Rattle.rules.specs.Reading.{at, made, isKind, isUserEvent, hasSlot, busy}
-use Rattle.rules.specs.Modes.{conflict}
+use Rattle.rules.specs.Formula.Formula.{each}
+use Rattle.rules.specs.Reading.{at, made, isKind, isUserEvent, hasSlot}
 use Rattle.rules.specs.Effects.{finishes}
 use Rattle.rules.specs.Sound.{isPayload, leadsTo, noSlot, unclaimed, claimed, slot, isLink, taskPart, eventPart, blockPart}
-use Rattle.rules.specs.Sound.{noLink, creator, outputOf, full, state, roots}
+use Rattle.rules.specs.Sound.{noLink, creator, outputOf, full, heldSlot, state, roots, pending, agrees}
+use Rattle.rules.specs.Descendants.{busy}
 use Rattle.laws.specs.Outside.{Outside}
 use Rattle.laws.specs.Frame.{meets, Row, over, AllOf, DueOf, lasts, row-lasts}
 
 -- slot j of t is claimed
 pub data Claimed : Type 0 where
   mode-low mode-high mark-high payload empty waits brought : Claimed
-
--- a link to slot j of t that is open, ready or cut
-abbrev pub pending : Session → ℕ → ℕ → Formula
-pending s t j = some (s Links 0 + 1) (λ l. leadsTo s t j l and not (s LinkState l ≐ delivered))
 
 module _ (t j : ℕ) where
   abbrev pub claimed-row : Claimed → Row
@@ -111,12 +107,7 @@ module _ (e : ℕ) where
       → ((n : Event) → DueOf event-row ws n → holds (event-says n q)) → holds (eventPart q e)
   event-lasts {s = s} {q = q} o k x shows = event-of q (lasts event-row o (event-by-name s k x) shows)
 
--- a link's state is one, and its source's
-abbrev pub agrees : ℕ → ℕ → Formula
-agrees link source =
-    1 ≼ link and link ≼ cut and (link ≐ linkOpen iff source ≐ eventOpen) and (link ≐ cut iff source ≐ destroyedUnfired)
-
--- it is open, and cut, exactly with its source
+-- a link is open, and cut, exactly with its source
 pub open-with : (link source : ℕ) → holds (agrees link source) → holds (link ≐ linkOpen iff source ≐ eventOpen)
 open-with link source x = x .1 .1 .0
 
@@ -303,12 +294,6 @@ module _ (t : ℕ) where
 pub data State : Type 0 where
   waits-unfilled later-full slot-holds : State
 
--- slot j of a task is held if the task is granted, and only if it is granted or running
-abbrev pub heldSlot : Session → ℕ → ℕ → Formula
-heldSlot s t j =
-    (s TaskState t ≐ granted and 1 ≼ s SlotPayload (at t j) then s SlotMark (at t j) ≐ held)
-    and (s SlotMark (at t j) ≐ held then 1 ≼ s SlotPayload (at t j) and (s TaskState t ≐ granted or s TaskState t ≐ running))
-
 module _ (t : ℕ) where
   abbrev pub state-row : State → Row
   state-row waits-unfilled =
@@ -420,12 +405,6 @@ pub slot-place : (s : Session) (t j : ℕ) → holds (slot s t j) → holds (noS
 slot-place s t j (inl (k, (l, inl (mode, (mark, (p, n)))))) = inl (mode, (mark, p))
 slot-place s t j (inl (k, (l, inr x))) = inr x
 slot-place s t j (inr (past, x)) = inl x
-
--- slot k holds the block that slot i asks for, for another task, in a mode that conflicts
-abbrev pub clashes : Session → ℕ → ℕ → Formula
-clashes s i k =
-    s SlotMark k ≐ held and not (k / 16 ≐ i / 16) and s SlotPayload k ≐ s SlotPayload i
-    and conflict (s SlotMode i) (s SlotMode k)
 
 -- what `unclaimed` says of a slot
 pub record Unclaimed (s : Session) (t j : ℕ) : Type 0 where

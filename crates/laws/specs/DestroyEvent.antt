@@ -16,14 +16,14 @@ use Rattle.session.specs.Names.{objectPlaces}
 use Rattle.session.specs.Names.{output, evenTally}
 use Rattle.rules.specs.Reading.{made, isKind, isUserEvent}
 use Rattle.rules.specs.Effects.{destroyEvent}
-use Rattle.rules.specs.Sound.{eventPart, outputOf}
+use Rattle.rules.specs.Sound.{eventPart, outputOf, agrees}
 use Rattle.laws.specs.Outside.{outside-within}
 use Rattle.laws.specs.Writes.{destroyEvent-writes}
 use Rattle.laws.specs.Frame.{DueOf, Shown.due}
 use Rattle.laws.specs.Rows.{Name, says}
 use Rattle.laws.specs.Rows.Name.{counts, eventParts, outputs}
 use Rattle.laws.specs.Keeping.{But, but, all, Excepted, Kept}
-use Rattle.laws.specs.Conjuncts.{Event, event-says, event-row, event-by-name, event-lasts, agrees, open-with, cut-with}
+use Rattle.laws.specs.Conjuncts.{Event, event-says, event-row, event-by-name, event-lasts, open-with, cut-with}
 use Rattle.laws.specs.Conjuncts.{output-by-name, Output.output-type}
 use Rattle.laws.specs.Conjuncts.Event.{state-low, state-high, paid}
 use Rattle.laws.specs.Places.{Places, places, put-here, put-there, Places.one, Places.two}

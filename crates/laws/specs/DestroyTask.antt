@@ -9,8 +9,9 @@ use Rattle.session.specs.declared.Field.the-variants.{TaskState, TaskFinish, Ta
 use Rattle.rules.specs.Formula.{Formula, holds, choose, Formula._≐_}
 use Rattle.rules.specs.FormulaLaws.{Case, decide, choose-yes, choose-no, Case.it-does, Case.it-does-not}
 use Rattle.session.specs.Names.{task, resolved, ended, taskDestroyed, fired, destroyedUnfired}
-use Rattle.rules.specs.Reading.{made, isKind, busy}
+use Rattle.rules.specs.Reading.{made, isKind}
 use Rattle.rules.specs.Effects.{destroyTask, destroyEvent, fireFinished}
+use Rattle.rules.specs.Descendants.{busy}
 use Rattle.laws.specs.Rows.Name.{outputs}
 use Rattle.laws.specs.Keeping.{But, Kept}
 use Rattle.laws.specs.DestroyEvent.{EventAfter, event-after, destroyEvent-rest}

@@ -12,10 +12,11 @@ use Rattle.rules.specs.Formula.{Formula, holds, choose, _iff_, Formula._≐_, F
 use Rattle.rules.specs.FormulaLaws.{Case, decide, choose-yes, choose-no, Case.it-does, Case.it-does-not}
 use Rattle.session.specs.Names.{task, running, ended, taskDestroyed, eventOpen, fired, destroyedUnfired, latch, evenTally, held}
 use Rattle.session.specs.Names.{objectPlaces}
-use Rattle.rules.specs.Reading.{at, made, isKind, busy}
+use Rattle.rules.specs.Reading.{at, made, isKind}
 use Rattle.rules.specs.Checks.{endChecks}
 use Rattle.rules.specs.Effects.{end, letGo, buryDoomed, fire, fireOne, fireFinished}
 use Rattle.rules.specs.Sound.{isPayload}
+use Rattle.rules.specs.Descendants.{busy}
 use Rattle.laws.specs.Rows.Name.{counts, taskParts, outputs}
 use Rattle.laws.specs.Keeping.{But, Kept}
 use Rattle.laws.specs.Met.{Checked}

@@ -13,7 +13,7 @@ use Rattle.rules.specs.Formula.{Formula, holds, choose, Formula._≼_, Formula.
 use Rattle.rules.specs.FormulaLaws.{Case, decide, choose-yes, choose-no, Case.it-does, Case.it-does-not}
 use Rattle.rules.specs.Reading.{made, at, isHeld}
 use Rattle.rules.specs.Effects.{satisfySlot}
-use Rattle.rules.specs.Sound.{isPayload, slot, state, full, leadsTo, noSlot}
+use Rattle.rules.specs.Sound.{isPayload, slot, state, full, leadsTo, noSlot, clash}
 use Rattle.laws.specs.Outside.{Outside, outside-same, outside-put}
 use Rattle.laws.specs.Writes.{satisfySlot-writes, slotFields}
 use Rattle.laws.specs.Frame.{AllOf, DueOf, Shown.due}
@@ -25,7 +25,7 @@ use Rattle.laws.specs.Conjuncts.{Claimed, claimed-says, claimed-row, cla
 use Rattle.laws.specs.Conjuncts.Claimed.{mode-low, mode-high, mark-high, payload, empty, waits as awaits, brought}
 use Rattle.laws.specs.Conjuncts.{State, state-says, state-row, state-by-name, state-of, state-lasts}
 use Rattle.laws.specs.Conjuncts.State.{waits-unfilled, later-full, slot-holds}
-use Rattle.laws.specs.Conjuncts.{Root, root-says, root-row, roots-by-name, roots-last, clashes}
+use Rattle.laws.specs.Conjuncts.{Root, root-says, root-row, roots-by-name, roots-last}
 use Rattle.laws.specs.Conjuncts.Root.{main-mark, main-payload}
 use Rattle.laws.specs.Apart.{Apart, whole}
 use Rattle.laws.specs.Places.{Places, places, put-here, put-there, Places.one, Places.two}
@@ -186,7 +186,7 @@ module _ (s : Session) (t j p : ℕ) (v : Vacant s t j p) (a : Apart s t j) wher
       y : (s SlotMark i ≡ held) × (after SlotPayload i ≡ s SlotPayload i)
       y = was-held i m
 
-      two : (k : ℕ) → k < i → holds (clashes after i k) → ⊥
+      two : (k : ℕ) → k < i → holds (clash after i k) → ⊥
       two k b (g, (n, (e, x))) =
           let w = was-held k g in
           a .others compatible i l (y .0) .0 k b (w .0, (n, (sym (w .1) ∙ e ∙ y .1, x)))

@@ -9,9 +9,10 @@ use Rattle.session.specs.Table.{Session}
 use Rattle.session.specs.declared.Field.the-variants.{Objects, Kind, TaskState, TaskFinish, TaskOutput, EventState}
 use Rattle.session.specs.Names.{task, ended, fired, objectPlaces}
 use Rattle.rules.specs.Formula.{holds}
-use Rattle.rules.specs.Reading.{made, busy}
+use Rattle.rules.specs.Reading.{made}
 use Rattle.rules.specs.Sound.{kept}
 use Rattle.rules.specs.Book.{Book, done}
+use Rattle.rules.specs.Descendants.{busy}
 use Rattle.laws.specs.Frame.{AllOf}
 use Rattle.laws.specs.Rows.Name.{counts, kinds, eventParts, outputs}
 use Rattle.laws.specs.Keeping.{Kept}

@@ -11,9 +11,10 @@ use Rattle.rules.specs.Formula.{Formula, holds, not, _iff_, Formula._≐_, Form
 use Rattle.rules.specs.Formula.Formula.{each}
 use Rattle.rules.specs.FormulaLaws.{Case, decide, Case.it-does, Case.it-does-not}
 use Rattle.session.specs.Names.{task, event, ended, taskDestroyed, eventOpen, fired, destroyedUnfired, destroyedFired, output}
-use Rattle.rules.specs.Reading.{made, isKind, busy}
+use Rattle.rules.specs.Reading.{made, isKind}
 use Rattle.rules.specs.Effects.{fire, fireFinished, finishes}
 use Rattle.rules.specs.Sound.{outputOf}
+use Rattle.rules.specs.Descendants.{busy}
 use Rattle.laws.specs.Frame.{AllOf, Shown.due}
 use Rattle.laws.specs.Rows.{Name, says}
 use Rattle.laws.specs.Rows.Name.{outputs}

@@ -13,13 +13,14 @@ use Rattle.rules.specs.FormulaLaws.{Case, decide, choose-yes, choose-no, Case.i
 use Rattle.session.specs.Names.{event, eventOpen, fired, linkOpen, ready, delivered, latch, output, evenTally}
 use Rattle.rules.specs.Reading.{isKind}
 use Rattle.rules.specs.Effects.{fire}
-use Rattle.rules.specs.Sound.{isPayload, eventPart, isLink, outputOf}
+use Rattle.rules.specs.Sound.{isPayload, eventPart, isLink, outputOf, agrees}
 use Rattle.laws.specs.Writes.{fireFields, fire-writes}
 use Rattle.laws.specs.Frame.{DueOf, Shown.due}
 use Rattle.laws.specs.Rows.{says}
 use Rattle.laws.specs.Rows.Name.{outputs, links, freeLinks}
 use Rattle.laws.specs.Keeping.{But}
-use Rattle.laws.specs.Conjuncts.{Event, event-says, event-row, event-lasts, agrees, open-with, no-link, link-by-name}
+use Rattle.laws.specs.Conjuncts.{Event, event-says, event-row, event-lasts, open-with, no-link, link-by-name}
+use Rattle.laws.specs.Conjuncts.{output-by-name, Output.output-type}
 use Rattle.laws.specs.Conjuncts.Linked.{agreeing}
 use Rattle.laws.specs.Conjuncts.Event.{state-low, state-high, has-payload, paid}
 use Rattle.laws.specs.Renewing.{Renewal, hadFired, renewed-rest}
@@ -174,5 +175,5 @@ unfolding fire change
 fire-outputs-beside s fires payload beside h i l = (λ x. go (event-after s fires payload (i + 1)) (h i l .0 x), h i l .1)
   where
     go : EventAfter s fires payload (i + 1) → holds (outputOf s i) → holds (outputOf (fire s fires payload) i)
-    go (fires-now f e p) x = absurd (beside (i + 1) f (x .1 .1 .0))
+    go (fires-now f e p) x = absurd (beside (i + 1) f (output-by-name i s x output-type))
     go (stays n e p) x = rw e x

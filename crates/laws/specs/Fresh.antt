@@ -8,10 +8,11 @@ use borrow.Author.Tests.{ne-eqb}
 use Rattle.session.specs.Table.{put}
 use Rattle.rules.specs.Formula.{holds, test, count}
 use Rattle.rules.specs.FormulaLaws.{passed}
-use Rattle.rules.specs.Reading.{at, isKind, under}
+use Rattle.rules.specs.Reading.{at, isKind}
 use Rattle.rules.specs.Effects.{new}
 use Rattle.rules.specs.Sound.{kept, soundUsed, unused, settled, templatePart, taskPart, eventPart, blockPart, noSlot}
 use Rattle.rules.specs.Step.{freshSession}
+use Rattle.rules.specs.Descendants.{under}
 use Rattle.laws.specs.ByName.{kept-from-used}
 
 used : test (soundUsed freshSession) ≡ true

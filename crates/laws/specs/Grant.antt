@@ -16,14 +16,14 @@ use Rattle.rules.specs.Modes.{conflict}
 use Rattle.rules.specs.ModeLaws.{conflict-swap, conflict-stops}
 use Rattle.rules.specs.Checks.{grantChecks, slotFree}
 use Rattle.rules.specs.Effects.{grant}
-use Rattle.rules.specs.Sound.{state, full}
+use Rattle.rules.specs.Sound.{state, full, clash}
 use Rattle.laws.specs.Writes.{grant-writes}
 use Rattle.laws.specs.Frame.{AllOf, DueOf, Shown.due}
 use Rattle.laws.specs.Rows.{Name, says}
 use Rattle.laws.specs.Rows.Name.{taskParts, roots, creators, outputs, slots, states, blocks, compatible, freeSlots}
 use Rattle.laws.specs.Rows.Name.{counts, settled}
 use Rattle.laws.specs.Keeping.{Due, kept-by, Kept}
-use Rattle.laws.specs.Conjuncts.{State, state-row, state-says, state-by-name, state-lasts, clashes}
+use Rattle.laws.specs.Conjuncts.{State, state-row, state-says, state-by-name, state-lasts}
 use Rattle.laws.specs.Conjuncts.State.{waits-unfilled, later-full, slot-holds}
 use Rattle.laws.specs.Marks.{Marking, payload-slot, marked-roots, marked-noSlot, marked-slots, marked-settled}
 use Rattle.laws.specs.Marks.{marked-full, marked-was-full, slot-low}
@@ -168,7 +168,7 @@ module _ (s : Session) (t : ℕ) (c : Checked (grantChecks s t)) (r : Kept s) wh
         λ x. made (x .0) (x .1 .0) (x .1 .1) now,
       )
     where
-      two : (k : ℕ) → k < i → holds (clashes (grant s t) i k) → After s t i → After s t k → ⊥
+      two : (k : ℕ) → k < i → holds (clash (grant s t) i k) → After s t i → After s t k → ⊥
       two k b (g, (n, (e, x))) (same m q) (same m′ q′) = r compatible i l (sym q ∙ h) .0 k b (sym q′ ∙ g, (n, (e, x)))
       two k b (g, (n, (e, x))) (taken o p q) (same m′ q′) = apart i k o p (omega arith) (λ z. n (z ∙ sym o)) (sym q′ ∙ g) e x
       two k b (g, (n, (e, x))) (same m q) (taken o p q′) =

@@ -9,7 +9,8 @@ use Rattle.session.specs.declared.Field.the-variants.{Objects, Links, Kind, Tas
 use Rattle.session.specs.Names.{task, resolved, granted, running, ready, delivered}
 use Rattle.rules.specs.Formula.{Formula, holds, count, Formula._≐_, Formula._≼_, Formula._and_}
 use Rattle.rules.specs.FormulaLaws.{Case, decide, Case.it-does, Case.it-does-not}
-use Rattle.rules.specs.Reading.{isKind, isUndelivered, undeliveredLinks}
+use Rattle.rules.specs.Reading.{isKind, isUndelivered}
+use Rattle.rules.specs.LastLine.{undeliveredLinks}
 use Rattle.laws.specs.Places.{put-here, put-there}
 use Rattle.laws.specs.Counting.{count-same, count-one}
 use Rattle.laws.specs.Moving.{move, Moved, after-move, Moved.state-stays, Moved.state-moves}

@@ -10,9 +10,10 @@ use Rattle.session.specs.declared.Field.the-variants.{Objects, Kind, TaskState,
 use Rattle.session.specs.Names.{task, ended}
 use Rattle.rules.specs.Formula.{holds, not, Formula._≐_, Formula._and_, Formula.some}
 use Rattle.rules.specs.FormulaLaws.{Case, decide, Case.it-does, Case.it-does-not}
-use Rattle.rules.specs.Reading.{made, isLive, busy, under}
+use Rattle.rules.specs.Reading.{made, isLive}
 use Rattle.rules.specs.Sound.{kept}
 use Rattle.rules.specs.Book.{Book, Column, madeBy, live, descends, done}
+use Rattle.rules.specs.Descendants.{busy, under}
 use Rattle.laws.specs.Rows.Name.{counts, kinds, taskParts}
 use Rattle.laws.specs.Keeping.{Kept}
 use Rattle.laws.specs.ByName.{by-name}

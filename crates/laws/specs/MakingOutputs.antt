@@ -9,8 +9,9 @@ use Rattle.session.specs.declared.Field.the-variants.{Objects, Kind, TaskState,
 use Rattle.session.specs.declared.Field.the-variants.{EventType}
 use Rattle.rules.specs.Formula.{Formula, holds, Formula._≐_, Formula._and_, Formula._then_}
 use Rattle.session.specs.Names.{task, event, ended, output}
-use Rattle.rules.specs.Reading.{isKind, isLive, busy, under}
+use Rattle.rules.specs.Reading.{isKind, isLive}
 use Rattle.rules.specs.Sound.{outputOf}
+use Rattle.rules.specs.Descendants.{busy, under}
 use Rattle.laws.specs.Shape.{Sort}
 use Rattle.laws.specs.Frame.{AllOf, Shown.due}
 use Rattle.laws.specs.Rows.{Name, says}

@@ -9,13 +9,13 @@ use Rattle.session.specs.Table.{Session, put}
 use Rattle.session.specs.declared.Field.the-variants.{Links, Dropped, EventState, LinkSource, LinkTarget, LinkSlot, LinkState}
 use Rattle.session.specs.Names.{ready, delivered}
 use Rattle.rules.specs.Formula.{Formula, holds, count, Formula._≐_}
-use Rattle.rules.specs.Sound.{slot, leadsTo, unclaimed, claimed, isLink, noLink}
+use Rattle.rules.specs.Sound.{slot, leadsTo, unclaimed, claimed, isLink, noLink, pending, agrees}
 use Rattle.laws.specs.Outside.{Outside, outside-same, outside-put}
 use Rattle.laws.specs.Frame.{AllOf, DueOf, Shown.due}
 use Rattle.laws.specs.Rows.{Name, says}
 use Rattle.laws.specs.Rows.Name.{slots, links, dropped, freeLinks, settled}
 use Rattle.laws.specs.Keeping.{but, Due, kept-by, Kept}
-use Rattle.laws.specs.Conjuncts.{Claimed, claimed-says, claimed-row, claimed-by-name, claimed-lasts, pending, agrees}
+use Rattle.laws.specs.Conjuncts.{Claimed, claimed-says, claimed-row, claimed-by-name, claimed-lasts}
 use Rattle.laws.specs.Conjuncts.{Linked, link-says, link-row, link-by-name, link-lasts, open-with, cut-with}
 use Rattle.laws.specs.Conjuncts.Linked.{agreeing}
 use Rattle.laws.specs.Conjuncts.Claimed.{waits, brought}

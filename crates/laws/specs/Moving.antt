@@ -9,8 +9,8 @@ use Rattle.session.specs.Table.{Session, put}
 use Rattle.session.specs.declared.Field.the-variants.{Kind, TaskState, TaskCreator, TaskFinish}
 use Rattle.rules.specs.Formula.{holds}
 use Rattle.session.specs.Names.{running, granted, ended, task, taskDestroyed}
-use Rattle.rules.specs.Reading.{busy}
 use Rattle.rules.specs.Sound.{taskPart, creators, creator, outputs, outputOf}
+use Rattle.rules.specs.Descendants.{busy}
 use Rattle.laws.specs.Outside.{Outside, outside-same, outside-put}
 use Rattle.laws.specs.Frame.{AllOf, DueOf, Shown.due}
 use Rattle.laws.specs.Conjuncts.{Task, task-row, task-says, task-lasts, Task.state-low, Task.state-high}

@@ -13,16 +13,16 @@ use Rattle.rules.specs.Formula.{Formula, holds, choose, count, Formula._≐_, F
 use Rattle.rules.specs.FormulaLaws.{choose-yes, choose-no}
 use Rattle.rules.specs.Reading.{made, at, isKind, isUserEvent, hasSlot}
 use Rattle.rules.specs.Effects.{newLink}
-use Rattle.rules.specs.Sound.{slot, leadsTo, noSlot, unclaimed, claimed, isLink, noLink}
+use Rattle.rules.specs.Sound.{slot, leadsTo, noSlot, unclaimed, claimed, isLink, noLink, pending, agrees}
 use Rattle.laws.specs.Outside.{Outside}
 use Rattle.laws.specs.Writes.{newLink-writes, linkFields}
 use Rattle.laws.specs.Frame.{AllOf, DueOf, Shown.due}
 use Rattle.laws.specs.Rows.{Name, says}
 use Rattle.laws.specs.Rows.Name.{counts, slots, links, oneLink, dropped, freeLinks, settled}
 use Rattle.laws.specs.Keeping.{Due, kept-by, Kept}
-use Rattle.laws.specs.Conjuncts.{Claimed, claimed-says, claimed-row, claimed-by-name, claimed-of, claimed-lasts, pending}
+use Rattle.laws.specs.Conjuncts.{Claimed, claimed-says, claimed-row, claimed-by-name, claimed-of, claimed-lasts}
 use Rattle.laws.specs.Conjuncts.Claimed.{mode-low, mode-high, mark-high, payload, empty, waits, brought}
-use Rattle.laws.specs.Conjuncts.{link-row, link-of, agrees, open-with}
+use Rattle.laws.specs.Conjuncts.{link-row, link-of, open-with}
 use Rattle.laws.specs.Conjuncts.Linked.{source-made, source-event, target-made, target-kind, has-slot, agreeing}
 use Rattle.laws.specs.Apart.{Apart, whole}
 use Rattle.laws.specs.Places.{Places, places, put-here, put-there, Places.one, Places.two}

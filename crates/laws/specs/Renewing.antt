@@ -13,7 +13,7 @@ use Rattle.session.specs.declared.Field.the-variants.{Links, EventState, EventT
 use Rattle.session.specs.declared.Field.the-variants.{LinkState}
 use Rattle.session.specs.Names.{fired, destroyedFired, delivered, latch, evenTally}
 use Rattle.rules.specs.Formula.{Formula, holds, Formula._≐_, Formula._or_}
-use Rattle.rules.specs.Sound.{eventPart, slot, claimed, unclaimed, isLink, noLink}
+use Rattle.rules.specs.Sound.{eventPart, slot, claimed, unclaimed, isLink, noLink, pending, agrees}
 use Rattle.laws.specs.Outside.{Outside, outside-same, outside-change}
 use Rattle.laws.specs.Writes.{fireFields}
 use Rattle.laws.specs.Frame.{AllOf, DueOf, Shown.due}
@@ -21,7 +21,7 @@ use Rattle.laws.specs.Rows.{Name, says}
 use Rattle.laws.specs.Rows.Name.{eventParts, outputs, slots, links, latches, dropped, freeLinks, settled}
 use Rattle.laws.specs.Keeping.{But, Due, kept-by}
 use Rattle.laws.specs.Conjuncts.{Claimed, Linked, link-says, link-row, link-lasts, Linked.agreeing, claimed-says}
-use Rattle.laws.specs.Conjuncts.{claimed-row, claimed-by-name, claimed-lasts, pending, agrees, link-by-name}
+use Rattle.laws.specs.Conjuncts.{claimed-row, claimed-by-name, claimed-lasts, link-by-name}
 use Rattle.laws.specs.Conjuncts.Claimed.{waits, brought}
 use Rattle.laws.specs.Counting.{count-more}
 

@@ -6,8 +6,9 @@ use Rattle.session.specs.Table.{Session, put}
 use Rattle.session.specs.declared.Field.the-variants.{Objects, Kind, TaskState, TaskFinish, TaskOutput, EventState, EventType}
 use Rattle.rules.specs.Formula.{Formula, holds}
 use Rattle.session.specs.Names.{task, event, running, eventOpen, output}
-use Rattle.rules.specs.Reading.{made, isKind, busy}
+use Rattle.rules.specs.Reading.{made, isKind}
 use Rattle.rules.specs.Sound.{outputOf}
+use Rattle.rules.specs.Descendants.{busy}
 use Rattle.laws.specs.Frame.{AllOf}
 use Rattle.laws.specs.Rows.Name.{counts, taskParts, eventParts, outputs}
 use Rattle.laws.specs.Keeping.{Kept}

@@ -10,8 +10,9 @@ use Rattle.session.specs.declared.Field.the-variants.{Objects, Kind, TaskState,
 use Rattle.session.specs.declared.Field.the-variants.{BlockHeld}
 use Rattle.rules.specs.Formula.{holds}
 use Rattle.session.specs.Names.{task, block, resolved, granted, running, ended, taskDestroyed, held}
-use Rattle.rules.specs.Reading.{made, isKind, at, busy}
+use Rattle.rules.specs.Reading.{made, isKind, at}
 use Rattle.rules.specs.Sound.{state, full}
+use Rattle.rules.specs.Descendants.{busy}
 use Rattle.laws.specs.Outside.{Outside, outside-same, outside-put}
 use Rattle.laws.specs.Frame.{AllOf, Shown.due}
 use Rattle.laws.specs.Rows.{Name, says}

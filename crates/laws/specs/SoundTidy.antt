@@ -22,6 +22,7 @@ use Rattle.laws.specs.Rows.Name.{counts, kinds, templateParts, taskParts
 use Rattle.laws.specs.Rows.Name.{settled}
 use Rattle.laws.specs.Keeping.{But}
 use Rattle.laws.specs.ByName.{sound-by-name}
+use Rattle.laws.specs.Conjuncts.{no-link}
 use Rattle.laws.specs.Grown.{Blank, blank}
 
 -- what is said of each of some fields, and of each of some others
@@ -62,7 +63,8 @@ module _ (s : Session) (r : But (settled ∷ []) s) where
   slots-past i h l = let n = past-slot i h l in n .0 also n .1 .0 also n .1 .1 also done
 
   links-past : (i : ℕ) → s Links 0 + 1 ≤ i → i < linkPlaces → Each (λ f. s f i ≡ 0) (ofClass perLink fields)
-  links-past i h l = let n = past-link i h l in n .0 also n .1 .0 also n .1 .1 .0 also n .1 .1 .1 also done
+  links-past i h l =
+      let n = no-link s i (past-link i h l) in n .no-source also n .no-target also n .no-slot also n .no-state also done
 
   past-used : (f : Field) (i : ℕ) → used s f ≤ i → i < size f → s f i ≡ 0
   past-used f i = go (class f) refl

@@ -14,10 +14,11 @@ use Rattle.rules.specs.Formula.{holds, choose, Formula._≐_, Formula._≼_, Fo
 use Rattle.rules.specs.EventTypeLaws.{output-known}
 use Rattle.rules.specs.FormulaLaws.{Case, decide, choose-yes, choose-no, Case.it-does, Case.it-does-not}
 use Rattle.session.specs.Names.{task, event, waiting, resolved, running, ended, output, mostObjects}
-use Rattle.rules.specs.Reading.{at, isRunning, busy, under}
+use Rattle.rules.specs.Reading.{at, isRunning}
 use Rattle.rules.specs.Checks.{taskChecks, taskSlots}
 use Rattle.rules.specs.Effects.{new, newTask, newEvent, makeTask}
 use Rattle.rules.specs.Sound.{full}
+use Rattle.rules.specs.Descendants.{busy, under}
 use Rattle.laws.specs.Met.{Checked}
 use Rattle.laws.specs.Outside.{outside-within}
 use Rattle.laws.specs.Writes.{newTask-writes}

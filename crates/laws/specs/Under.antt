@@ -10,8 +10,8 @@ use Rattle.session.specs.declared.Field.the-variants.{Objects, Kind, TaskCreato
 use Rattle.session.specs.Names.{mostObjects, task}
 use Rattle.rules.specs.Formula.{Formula, holds, Formula._≐_, Formula._≼_, Formula._and_, Formula._or_}
 use Rattle.rules.specs.FormulaLaws.{Case, decide, Case.it-does, Case.it-does-not}
-use Rattle.rules.specs.Reading.{under}
 use Rattle.rules.specs.Sound.{taskPart, creator}
+use Rattle.rules.specs.Descendants.{under}
 use Rattle.laws.specs.Rows.{says}
 use Rattle.laws.specs.Rows.Name.{counts, taskParts, roots, creators, outputs}
 use Rattle.laws.specs.Keeping.{But}

@@ -7,6 +7,7 @@ ghost use Prim.Native.Nat.{_≤_, _<_};
 ghost use lib.ListN.{length};
 ghost use Rattle.session.specs.Names.{mostObjects, slotPlaces};
 ghost use Rattle.session.specs.Table.{read, words};
+ghost use Rattle.session.specs.Lent.{was};
 ghost use Rattle.session.specs.declared.Field.the-variants.{Objects};
 ghost use Rattle.rules.specs.Formula.{test};
 ghost use Rattle.rules.specs.Reading.{slotHolds, holdsMade, holdsBlock, isHeld};
@@ -15,7 +16,7 @@ ghost use Rattle.reading.specs.Holds.{Active, slotsHold};
 // Whether the slot at place i holds block b. Internal, as `get` is.
 fn slot_holds(s: &[u64], b: u64, i: usize) -> bool
     requires { ⌜ (words ≤ length (now s)) × (i < slotPlaces) ⌝ }
-    ensures { λ r. ⌜ r ≡ test (slotHolds (read (now (s .entry))) b i) ⌝ }
+    ensures { λ r. ⌜ r ≡ test (slotHolds (was s) b i) ⌝ }
 {
     if session::get(s, Field::SlotMark, i) != names::HELD {
         return false;
@@ -26,7 +27,7 @@ fn slot_holds(s: &[u64], b: u64, i: usize) -> bool
 // Whether some slot of task h holds block b. Internal, as `get` is.
 fn task_holds(s: &[u64], b: u64, h: u64) -> bool
     requires { ⌜ (words ≤ length (now s)) × (h ≤ mostObjects) ⌝ }
-    ensures { λ r. ⌜ r ≡ test (slotsHold (read (now (s .entry))) b h) ⌝ }
+    ensures { λ r. ⌜ r ≡ test (slotsHold (was s) b h) ⌝ }
 {
     let mut j: u64 = 0;
     while j < 16 {
@@ -41,7 +42,7 @@ fn task_holds(s: &[u64], b: u64, h: u64) -> bool
 // Whether task t holds block b since it made it.
 fn holds_made(s: &[u64], t: u64, b: u64) -> bool
     requires { ⌜ words ≤ length (now s) ⌝ }
-    ensures { λ r. ⌜ r ≡ test (holdsMade (read (now (s .entry))) t b) ⌝ }
+    ensures { λ r. ⌜ r ≡ test (holdsMade (was s) t b) ⌝ }
 {
     if of_object(s, Field::BlockHeld, b) != 1 {
         return false;
@@ -52,7 +53,7 @@ fn holds_made(s: &[u64], t: u64, b: u64) -> bool
 // Whether task t holds block b, by a slot or since it made the block; past the last handle there is no slot.
 pub fn holds_block(s: &[u64], t: u64, b: u64) -> bool
     requires { ⌜ words ≤ length (now s) ⌝ }
-    ensures { λ r. ⌜ r ≡ test (holdsBlock (read (now (s .entry))) t b) ⌝ }
+    ensures { λ r. ⌜ r ≡ test (holdsBlock (was s) t b) ⌝ }
 {
     if names::MOST_OBJECTS < t {
         return holds_made(s, t, b);
@@ -66,7 +67,7 @@ pub fn holds_block(s: &[u64], t: u64, b: u64) -> bool
 // The same as `task_holds`, with a look at the slots of a granted or running task only: no other holds. Internal: callers have shown that.
 fn active_holds(s: &[u64], b: u64, h: u64) -> bool
     requires { ⌜ (words ≤ length (now s)) × (h ≤ mostObjects) × (h ≤ read (now s) Objects 0) × Active (read (now s)) ⌝ }
-    ensures { λ r. ⌜ r ≡ test (slotsHold (read (now (s .entry))) b h) ⌝ }
+    ensures { λ r. ⌜ r ≡ test (slotsHold (was s) b h) ⌝ }
 {
     let state = session::get(s, Field::TaskState, h as usize);
     if state < names::GRANTED {
@@ -82,7 +83,7 @@ fn active_holds(s: &[u64], b: u64, h: u64) -> bool
 // hold by their slots.
 pub fn is_held(s: &[u64], b: u64) -> bool
     requires { ⌜ (words ≤ length (now s)) × (read (now s) Objects 0 ≤ mostObjects) × (b ≤ mostObjects) × Active (read (now s)) ⌝ }
-    ensures { λ r. ⌜ r ≡ test (isHeld (read (now (s .entry))) b) ⌝ }
+    ensures { λ r. ⌜ r ≡ test (isHeld (was s) b) ⌝ }
 {
     if session::get(s, Field::BlockHeld, b as usize) == 1 {
         return true;

@@ -25,12 +25,13 @@ ghost use mathlib.Core.Path.{_≡_};
 ghost use Prim.Native.Nat.{_≤_};
 ghost use lib.ListN.{length};
 ghost use Rattle.session.specs.Names.{objectPlaces, linkPlaces, slotPlaces};
-ghost use Rattle.session.specs.Table.{read, words, size, at};
+ghost use Rattle.session.specs.Table.{words, size, at};
+ghost use Rattle.session.specs.Lent.{was};
 
 // The number in a field of objects at any place at all, 0 past its end.
 pub fn of_object(s: &[u64], f: Field, h: u64) -> u64
     requires { ⌜ (words ≤ length (now s)) × (size f ≡ objectPlaces) ⌝ }
-    ensures { λ r. ⌜ r ≡ read (now (s .entry)) f h ⌝ }
+    ensures { λ r. ⌜ r ≡ was s f h ⌝ }
 {
     if names::MOST_OBJECTS < h {
         return 0;
@@ -41,7 +42,7 @@ pub fn of_object(s: &[u64], f: Field, h: u64) -> u64
 // The number in a field of slots at any place at all, 0 past its end.
 pub fn of_slot(s: &[u64], f: Field, i: u64) -> u64
     requires { ⌜ (words ≤ length (now s)) × (size f ≡ slotPlaces) ⌝ }
-    ensures { λ r. ⌜ r ≡ read (now (s .entry)) f i ⌝ }
+    ensures { λ r. ⌜ r ≡ was s f i ⌝ }
 {
     if names::SLOT_PLACES as u64 <= i {
         return 0;
@@ -52,7 +53,7 @@ pub fn of_slot(s: &[u64], f: Field, i: u64) -> u64
 // The same at slot j of handle h, whatever these are.
 pub fn of_slot_at(s: &[u64], f: Field, h: u64, j: u64) -> u64
     requires { ⌜ (words ≤ length (now s)) × (size f ≡ slotPlaces) ⌝ }
-    ensures { λ r. ⌜ r ≡ read (now (s .entry)) f (at h j) ⌝ }
+    ensures { λ r. ⌜ r ≡ was s f (at h j) ⌝ }
 {
     if names::MOST_OBJECTS < h {
         return 0;
@@ -66,7 +67,7 @@ pub fn of_slot_at(s: &[u64], f: Field, h: u64, j: u64) -> u64
 // The number in a field of links at any place at all, 0 past its end.
 pub fn of_link(s: &[u64], f: Field, l: u64) -> u64
     requires { ⌜ (words ≤ length (now s)) × (size f ≡ linkPlaces) ⌝ }
-    ensures { λ r. ⌜ r ≡ read (now (s .entry)) f l ⌝ }
+    ensures { λ r. ⌜ r ≡ was s f l ⌝ }
 {
     if names::MOST_LINKS < l {
         return 0;

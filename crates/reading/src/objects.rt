@@ -11,6 +11,7 @@ ghost use Prim.Native.Nat.{_≤_};
 ghost use lib.ListN.{length};
 ghost use Rattle.session.specs.Names.{mostObjects, mostLinks};
 ghost use Rattle.session.specs.Table.{read, words};
+ghost use Rattle.session.specs.Lent.{was};
 ghost use Rattle.session.specs.declared.Field.the-variants.{TaskSlots};
 ghost use Rattle.rules.specs.Formula.{test};
 ghost use Rattle.rules.specs.Reading.{made, isKind, isUserEvent, isRunning, isLive, isGone, hasSlot, isUndelivered, overflows, isFiredSticky};
@@ -22,14 +23,14 @@ ghost use Rattle.reading.specs.Gone.{isSpent};
 // Whether a number is the handle of an object.
 pub fn is_made(s: &[u64], h: u64) -> bool
     requires { ⌜ words ≤ length (now s) ⌝ }
-    ensures { λ r. ⌜ r ≡ test (made (read (now (s .entry))) h) ⌝ }
+    ensures { λ r. ⌜ r ≡ test (made (was s) h) ⌝ }
 {
     (1 <= h) & (h <= session::get(s, Field::Objects, 0))
 }
 
 pub fn is_kind(s: &[u64], k: u64, h: u64) -> bool
     requires { ⌜ words ≤ length (now s) ⌝ }
-    ensures { λ r. ⌜ r ≡ test (isKind (read (now (s .entry))) k h) ⌝ }
+    ensures { λ r. ⌜ r ≡ test (isKind (was s) k h) ⌝ }
 {
     of_object(s, Field::Kind, h) == k
 }
@@ -37,7 +38,7 @@ pub fn is_kind(s: &[u64], k: u64, h: u64) -> bool
 // Whether an object is an event of a type that a call may name.
 pub fn is_user_event(s: &[u64], h: u64) -> bool
     requires { ⌜ words ≤ length (now s) ⌝ }
-    ensures { λ r. ⌜ r ≡ test (isUserEvent (read (now (s .entry))) h) ⌝ }
+    ensures { λ r. ⌜ r ≡ test (isUserEvent (was s) h) ⌝ }
 {
     (of_object(s, Field::Kind, h) == names::EVENT) & is_user_type(of_object(s, Field::EventType, h))
 }
@@ -45,7 +46,7 @@ pub fn is_user_event(s: &[u64], h: u64) -> bool
 // As a caller must be.
 pub fn is_running(s: &[u64], h: u64) -> bool
     requires { ⌜ words ≤ length (now s) ⌝ }
-    ensures { λ r. ⌜ r ≡ test (isRunning (read (now (s .entry))) h) ⌝ }
+    ensures { λ r. ⌜ r ≡ test (isRunning (was s) h) ⌝ }
 {
     if !is_made(s, h) {
         return false;
@@ -59,7 +60,7 @@ pub fn is_running(s: &[u64], h: u64) -> bool
 // Whether h is a live task; callers have shown that h has a place.
 pub fn is_live(s: &[u64], h: u64) -> bool
     requires { ⌜ (words ≤ length (now s)) × (h ≤ mostObjects) ⌝ }
-    ensures { λ r. ⌜ r ≡ test (isLive (read (now (s .entry))) h) ⌝ }
+    ensures { λ r. ⌜ r ≡ test (isLive (was s) h) ⌝ }
 {
     if session::get(s, Field::Kind, h as usize) != names::TASK {
         return false;
@@ -70,7 +71,7 @@ pub fn is_live(s: &[u64], h: u64) -> bool
 // A destroyed event, or one that counts as gone since it has fired.
 pub fn is_spent(s: &[u64], e: u64) -> bool
     requires { ⌜ words ≤ length (now s) ⌝ }
-    ensures { λ r. ⌜ r ≡ test (isSpent (read (now (s .entry))) e) ⌝ }
+    ensures { λ r. ⌜ r ≡ test (isSpent (was s) e) ⌝ }
 {
     let state = of_object(s, Field::EventState, e);
     if names::DESTROYED_UNFIRED <= state {
@@ -84,7 +85,7 @@ pub fn is_spent(s: &[u64], e: u64) -> bool
 
 pub fn is_gone(s: &[u64], h: u64) -> bool
     requires { ⌜ words ≤ length (now s) ⌝ }
-    ensures { λ r. ⌜ r ≡ test (isGone (read (now (s .entry))) h) ⌝ }
+    ensures { λ r. ⌜ r ≡ test (isGone (was s) h) ⌝ }
 {
     let kind = of_object(s, Field::Kind, h);
     if kind == names::TEMPLATE {
@@ -105,7 +106,7 @@ pub fn is_gone(s: &[u64], h: u64) -> bool
 // Whether an object has a slot of that number.
 pub fn has_slot(s: &[u64], h: u64, j: u64) -> bool
     requires { ⌜ words ≤ length (now s) ⌝ }
-    ensures { λ r. ⌜ r ≡ test (hasSlot (read (now (s .entry))) h j) ⌝ }
+    ensures { λ r. ⌜ r ≡ test (hasSlot (was s) h j) ⌝ }
 {
     let kind = of_object(s, Field::Kind, h);
     (kind == names::TASK) & (j < of_object(s, Field::TaskSlots, h))
@@ -115,7 +116,7 @@ pub fn has_slot(s: &[u64], h: u64, j: u64) -> bool
 // Whether a satisfaction of slot j would take the latch e out of its range.
 pub fn overflows(s: &[u64], e: u64, j: u64) -> bool
     requires { ⌜ words ≤ length (now s) ⌝ }
-    ensures { λ r. ⌜ r ≡ test (overflows (read (now (s .entry))) e j) ⌝ }
+    ensures { λ r. ⌜ r ≡ test (overflows (was s) e j) ⌝ }
 {
     if !is_kind(s, names::EVENT, e) {
         return false;
@@ -135,7 +136,7 @@ pub fn overflows(s: &[u64], e: u64, j: u64) -> bool
 
 pub fn is_fired_sticky(s: &[u64], e: u64) -> bool
     requires { ⌜ words ≤ length (now s) ⌝ }
-    ensures { λ r. ⌜ r ≡ test (isFiredSticky (read (now (s .entry))) e) ⌝ }
+    ensures { λ r. ⌜ r ≡ test (isFiredSticky (was s) e) ⌝ }
 {
     if !is_kind(s, names::EVENT, e) {
         return false;
@@ -149,7 +150,7 @@ pub fn is_fired_sticky(s: &[u64], e: u64) -> bool
 // Whether a delivery to slot j of d is dropped.
 pub fn drops(s: &[u64], d: u64, j: u64) -> bool
     requires { ⌜ words ≤ length (now s) ⌝ }
-    ensures { λ r. ⌜ r ≡ test (drops (read (now (s .entry))) d j) ⌝ }
+    ensures { λ r. ⌜ r ≡ test (drops (was s) d j) ⌝ }
 {
     if is_gone(s, d) {
         return true;
@@ -163,7 +164,7 @@ pub fn drops(s: &[u64], d: u64, j: u64) -> bool
 // How many pre-slots a task gets: 17 takes the template's count.
 pub fn task_slots(s: &[u64], template: u64, n: u64) -> u64
     requires { ⌜ words ≤ length (now s) ⌝ }
-    ensures { λ r. ⌜ r ≡ taskSlots (read (now (s .entry))) template n ⌝ }
+    ensures { λ r. ⌜ r ≡ taskSlots (was s) template n ⌝ }
 {
     if n == names::UNKNOWN_COUNT {
         return of_object(s, Field::TemplateCount, template);
@@ -174,7 +175,7 @@ pub fn task_slots(s: &[u64], template: u64, n: u64) -> u64
 // Whether every pre-slot of task t is satisfied. Internal: callers have shown the length, the handle and the count of slots.
 pub fn is_full(s: &[u64], t: u64) -> bool
     requires { ⌜ (words ≤ length (now s)) × (t ≤ mostObjects) × (read (now s) TaskSlots t ≤ 16) ⌝ }
-    ensures { λ r. ⌜ r ≡ test (full (read (now (s .entry))) t) ⌝ }
+    ensures { λ r. ⌜ r ≡ test (full (was s) t) ⌝ }
 {
     let n = session::get(s, Field::TaskSlots, t as usize) as usize;
     let first = t as usize * 16;
@@ -191,7 +192,7 @@ pub fn is_full(s: &[u64], t: u64) -> bool
 // Whether a link is open or ready; callers have shown that it has a place.
 pub fn is_undelivered(s: &[u64], l: u64) -> bool
     requires { ⌜ (words ≤ length (now s)) × (l ≤ mostLinks) ⌝ }
-    ensures { λ r. ⌜ r ≡ test (isUndelivered (read (now (s .entry))) l) ⌝ }
+    ensures { λ r. ⌜ r ≡ test (isUndelivered (was s) l) ⌝ }
 {
     if session::get(s, Field::LinkState, l as usize) == names::LINK_OPEN {
         return true;

@@ -8,8 +8,8 @@ use Rattle.session.specs.Table.{Session}
 use Rattle.session.specs.declared.Field.the-variants.{Objects, TaskCreator}
 use Rattle.rules.specs.Formula.{Formula, holds, not, Formula._≐_, Formula.each, Formula.some}
 use Rattle.rules.specs.FormulaLaws.{passed, passes}
-use Rattle.rules.specs.Reading.{under, busy}
 use Rattle.rules.specs.Effects.{finishes}
+use Rattle.rules.specs.Descendants.{under, busy}
 use Rattle.retiring.specs.TidyUnderWay.{Tidy}
 use Rattle.retiring.specs.Finish.{waits, finishes-waits}
 use Rattle.retiring.specs.Climb.{OnlyAbove, Narrowed, Reached, doneCreator, step}

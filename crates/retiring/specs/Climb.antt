@@ -11,15 +11,17 @@ use lib.Seq.{getD-set-same, getD-set-other}
 use Rattle.session.specs.Table.{Session, put, change}
 use Rattle.session.specs.declared.Field.the-variants.{Objects, Kind, TaskState, TaskCreator, TaskFinish, TaskOutput, EventState}
 use Rattle.session.specs.declared.Field.the-variants.{EventType}
-use Rattle.session.specs.Names.{event, running, ended, eventOpen, fired, destroyedFired, destroyedUnfired}
+use Rattle.session.specs.Names.{event, running, ended, fired, destroyedFired, destroyedUnfired}
 use Rattle.session.specs.Names.{mostObjects, objectPlaces}
 use Rattle.rules.specs.Formula.{holds, choose, Formula._≐_, Formula._≼_, Formula._and_}
 use Rattle.rules.specs.FormulaLaws.{Case, decide, choose-yes, choose-no, Case.it-does, Case.it-does-not, choose-case}
-use Rattle.rules.specs.Reading.{made, under, busy}
+use Rattle.rules.specs.Reading.{made}
 use Rattle.rules.specs.Sound.{outputs}
 use Rattle.rules.specs.Effects.{finishes, letGo, buryDoomed, fire, fireOne, fireFinished, destroyEvent}
+use Rattle.rules.specs.Descendants.{under, busy}
 use Rattle.laws.specs.Places.{Places, places, put-there, Places.one, Places.two}
 use Rattle.laws.specs.Under.{under-enough, or-map}
+use Rattle.laws.specs.Conjuncts.{finishes-by-name, output-by-name, Output.fires-with}
 use Rattle.retiring.specs.TidyUnderWay.{Tidy}
 use Rattle.retiring.specs.Finish.{Marks, waits, waits-of, one-fires, fires-nothing}
 use Rattle.retiring.specs.RetiringParts.{outputDestroyed, outputFired, ending}
@@ -127,7 +129,7 @@ module _ (s : Session) (x : Tidy s) (h : ℕ) (l : h ≤ s Objects 0) where
   step {B} e f r own = go (r .1)
     where
       up : Reached c (c h) (e - 1) → Case (s TaskState (c h) ≼ running) → Reached c (doneCreator s h) (e - 1)
-      up y (it-does live) = absurd (live-stops (e - 1) live (f .1 .1 .1 .1 .0) (f .1 .1 .1 .1 .1) y)
+      up y (it-does live) = let n = finishes-by-name s e f in absurd (live-stops (e - 1) live (n .over) (n .idle) y)
       up y (it-does-not d) = rw (creator-done s h d) y
 
       go : (h ≡ e - 1) ⊎ holds (under c h h (e - 1)) → B ⊎ Reached c (doneCreator s h) (e - 1)
@@ -269,15 +271,16 @@ module _ (s r : Session) (t : ℕ) (x : Tidy s) (o : holds (outputs s)) (own : O
   -- so its output event had fired
   fired-before : (e : ℕ) → (t ≡ e - 1 → ⊥) → (holds (under (s TaskCreator) t t (e - 1)) → ⊥) → holds (finishes r e)
       → s EventState e ≡ fired
-  fired-before e n u f =
-      let k : s Kind e ≡ event = sym (own .kinds e) ∙ f .0 in
+  fired-before e other u f =
+      let n = finishes-by-name r e f in
+      let k : s Kind e ≡ event = sym (own .kinds e) ∙ n .kind in
       let lo = event-made s x e k .0 in
       let hi = event-made s x e k .1 in
-      let of = o e (omega arith) .1 (k, sym (own .types e) ∙ f .1 .0) in
+      let of = o e (omega arith) .1 (k, sym (own .types e) ∙ n .type) in
       let out = o (e - 1) (omega arith) .0 of in
       let back : e - 1 + 1 ≡ e = omega arith in
-      rw back at (out .1 .1 .1 .0 .1
-      (sym (own .tasks (e - 1) n) ∙ f .1 .1 .1 .1 .0, inr (idle-before (e - 1) u (f .1 .1 .1 .1 .1))))
+      rw back at (output-by-name (e - 1) s out fires-with .1
+      (sym (own .tasks (e - 1) other) ∙ n .over, inr (idle-before (e - 1) u (n .idle))))
 
   pub only-above : holds (made s t) → OnlyAbove r t
   only-above m =
@@ -294,7 +297,7 @@ module _ (s r : Session) (t : ℕ) (x : Tidy s) (o : holds (outputs s)) (own : O
       go e f (two n) (it-does-not u) =
           let was : s EventState e ≡ fired = fired-before e n u f in
           let stays : r EventState e ≡ s EventState e = own .events e (λ q. n (omega arith)) in
-          let unfired : r EventState e ≡ eventOpen = f .1 .1 .0 in
+          let unfired = finishes-by-name r e f .unfired in
           absurd (omega arith)
 
 -- what an end and the destroying of a task write before that
@@ -302,12 +305,26 @@ module _ (s : Session) (t : ℕ) where
   pub own-state : (v : ℕ) → OnlyOwn s (put s TaskState t v) t
   unfolding put
   own-state v =
-      record { count = refl; kinds = λ h. refl; types = λ e. refl; creators = refl; tasks = λ u n. put-there s TaskState t u v n; events = λ e n. refl }
+      record {
+        count = refl;
+        kinds = λ h. refl;
+        types = λ e. refl;
+        creators = refl;
+        tasks = λ u n. put-there s TaskState t u v n;
+        events = λ e n. refl;
+      }
 
   pub own-ending : OnlyOwn s (ending s t) t
   unfolding put letGo buryDoomed change
   own-ending =
-      record { count = refl; kinds = λ h. refl; types = λ e. refl; creators = refl; tasks = λ u n. put-there s TaskState t u ended n; events = λ e n. refl }
+      record {
+        count = refl;
+        kinds = λ h. refl;
+        types = λ e. refl;
+        creators = refl;
+        tasks = λ u n. put-there s TaskState t u ended n;
+        events = λ e n. refl;
+      }
 
   module _ (r : Session) (own : OnlyOwn s r t) where
     own-fireOne : (b : ℕ) → OnlyOwn s (fireOne r (t + 1) b) t

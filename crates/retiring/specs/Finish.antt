@@ -13,8 +13,10 @@ use Rattle.session.specs.Names.{event, ended, eventOpen, fired, output, linkOpe
 use Rattle.rules.specs.Formula.{Formula, holds, choose, test, Formula._≐_, Formula._and_}
 use Rattle.rules.specs.FormulaLaws.{Case, decide, choose-yes, choose-no, passes, fails, choose-same, Case.it-does}
 use Rattle.rules.specs.FormulaLaws.{Case.it-does-not}
-use Rattle.rules.specs.Reading.{isKind, busy}
+use Rattle.rules.specs.Reading.{isKind}
 use Rattle.rules.specs.Effects.{finishes, fire, fireOne, fireFinished}
+use Rattle.rules.specs.Descendants.{busy}
+use Rattle.laws.specs.Conjuncts.{Finishes, finishes-by-name, finishes-of}
 use Rattle.effects.specs.Puts.{put-same}
 use Rattle.effects.specs.OpenLinks.{NoMoreLinks}
 use Rattle.holding.specs.SweepRows.{row, rows, change-same, change-idle}
@@ -120,8 +122,8 @@ module _ (s : Session) (m : List ℕ) (t : Tidy s) (x : Marks s m) where
     where
       empty : (e : ℕ) → Case (getD m e 0 ≐ 1) → choose (getD m e 0 ≐ 1) 0 (s EventPayload e) ≡ s EventPayload e
       empty e (it-does q) =
-          let f : holds (finishes s e) = x .sure e q in
-          choose-yes (getD m e 0 ≐ 1) 0 (s EventPayload e) q ∙ sym (t .open-empty e (f .0) (f .1 .1 .0))
+          let f = finishes-by-name s e (x .sure e q) in
+          choose-yes (getD m e 0 ≐ 1) 0 (s EventPayload e) q ∙ sym (t .open-empty e (f .kind) (f .unfired))
       empty e (it-does-not n) = choose-no (getD m e 0 ≐ 1) 0 (s EventPayload e) n
 
 -- what a mark of 0, and any other, says
@@ -155,20 +157,24 @@ waits s h =
 pub waits-of : (s : Session) (h : ℕ) → holds (finishes s (h + 1)) → holds (waits s h)
 waits-of s h x =
     let back : h + 1 - 1 ≡ h = omega arith in
-    (x .0, (x .1 .0, (x .1 .1 .0, (rw back at (x .1 .1 .1 .0), rw back at (x .1 .1 .1 .1 .0)))))
+    let f = finishes-by-name s (h + 1) x in
+    (f .kind, (f .type, (f .unfired, (rw back at (f .finish), rw back at (f .over)))))
 
 pub finishes-idle : (s : Session) (h : ℕ) → holds (finishes s (h + 1)) → holds (busy s h) → ⊥
-finishes-idle s h x b = let back : h + 1 - 1 ≡ h = omega arith in x .1 .1 .1 .1 .1 (rw back b)
+finishes-idle s h x b = let back : h + 1 - 1 ≡ h = omega arith in finishes-by-name s (h + 1) x .idle (rw back b)
 
 pub finishes-waits : (s : Session) (h : ℕ) → (holds (busy s h) → ⊥) → test (waits s h) ≡ test (finishes s (h + 1))
 finishes-waits s h idle = go (decide (waits s h))
   where
     go : Case (waits s h) → test (waits s h) ≡ test (finishes s (h + 1))
-    go (it-does x) =
-        let back : h + 1 - 1 ≡ h = omega arith in
-        passes (waits s h) x ∙ sym
-        (passes (finishes s (h + 1))
-        (x .0, (x .1 .0, (x .1 .1 .0, (rw back (x .1 .1 .1 .0), (rw back (x .1 .1 .1 .1), rw back idle))))))
+    go (it-does x) = passes (waits s h) x ∙ sym (passes (finishes s (h + 1)) (finishes-of s (h + 1) (all x)))
+      where
+        back : h + 1 - 1 ≡ h
+        back = omega arith
+
+        all : holds (waits s h) → Finishes s (h + 1)
+        all (kind, (type, (unfired, (finish, over)))) =
+            record { kind = kind; type = type; unfired = unfired; finish = rw back finish; over = rw back over; idle = rw back idle }
     go (it-does-not n) = fails (waits s h) n ∙ sym (fails (finishes s (h + 1)) (λ x. n (waits-of s h x)))
 
 -- where nothing finishes nothing fires

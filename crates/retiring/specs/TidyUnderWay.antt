@@ -67,11 +67,11 @@ module _ (ws : List ℕ) (good : holds (sound (read ws))) where
     where
       higher : holds (creator s h) → s Kind (s TaskCreator h) ≡ task
       higher (inl e) = let z : s TaskCreator h ≡ 0 = rw e (roots-by-name s (r roots) main-creator) in absurd (omega arith)
-      higher (inr x) = x .1 .1 .0
+      higher (inr (there, (lower, (is-task, started)))) = is-task
 
       go : holds (taskPart s h) → s Kind (s TaskCreator h) ≡ task
       go (inl x) = higher (r creators h (omega arith) (x .0))
-      go (inr x) = let z : s TaskCreator h ≡ 0 = x .1 .1 .0 in absurd (omega arith)
+      go (inr (other, (no-state, (no-creator, rest)))) = absurd (omega arith)
 
   open-empty : OpenEmpty s
   open-empty e k o = go (decLt (s Objects 0) e)

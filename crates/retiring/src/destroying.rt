@@ -6,7 +6,8 @@ ghost use mathlib.Core.Path.{_≡_};
 ghost use Prim.Native.Nat.{_+_, _≤_};
 ghost use lib.ListN.{length};
 ghost use Rattle.session.specs.Names.{mostObjects, mostLinks};
-ghost use Rattle.session.specs.Table.{Wrote, read, words};
+ghost use Rattle.session.specs.Table.{read, words};
+ghost use Rattle.session.specs.Lent.{was, Becomes};
 ghost use Rattle.session.specs.declared.Field.the-variants.{Objects, Links};
 ghost use Rattle.rules.specs.Formula.{holds};
 ghost use Rattle.rules.specs.Reading.{made};
@@ -24,7 +25,7 @@ ghost use Rattle.retiring.specs.RetiringParts.{outputDestroyed, OutputLo
 // The open links of event e are cut; ready ones still deliver. Internal: callers have shown the length and the links' count.
 fn cut_links(s: &mut [u64], e: u64)
     requires { ⌜ (words ≤ length (now s)) × (read (now s) Links 0 ≤ mostLinks) × NoMoreLinks (read (now s)) ⌝ }
-    ensures { λ r. ⌜ Wrote (now (s .entry)) (now (s .exit)) (linksCut (read (now (s .entry))) e) ⌝ }
+    ensures { λ r. ⌜ Becomes s (linksCut (was s) e) ⌝ }
 {
     effects::set_open_links(s, e, names::CUT);
 }
@@ -43,7 +44,7 @@ fn retired_state(state: u64) -> u64
 fn destroy_event(s: &mut [u64], e: u64)
     requires { ⌜ (words ≤ length (now s)) × (e ≤ mostObjects) × (read (now s) Links 0 ≤ mostLinks)
         × NoMoreLinks (read (now s)) ⌝ }
-    ensures { λ r. ⌜ Wrote (now (s .entry)) (now (s .exit)) (destroyEvent (read (now (s .entry))) e) ⌝ }
+    ensures { λ r. ⌜ Becomes s (destroyEvent (was s) e) ⌝ }
 {
     let state = session::get(s, Field::EventState, e as usize);
     session::set(s, Field::EventState, e as usize, retired_state(state));
@@ -53,7 +54,7 @@ fn destroy_event(s: &mut [u64], e: u64)
 // Destroys the output event of task t, if it has one. Internal: callers have shown the length, the handles and a tidy session.
 fn destroy_output(s: &mut [u64], t: u64)
     requires { ⌜ (words ≤ length (now s)) × (t ≤ mostObjects) × Tidy (read (now s)) × OutputLow (read (now s)) t ⌝ }
-    ensures { λ r. ⌜ Wrote (now (s .entry)) (now (s .exit)) (outputDestroyed (read (now (s .entry))) t) ⌝ }
+    ensures { λ r. ⌜ Becomes s (outputDestroyed (was s) t) ⌝ }
 {
     if session::get(s, Field::TaskOutput, t as usize) == 1 {
         destroy_event(s, t + 1);
@@ -65,7 +66,7 @@ fn destroy_output(s: &mut [u64], t: u64)
 fn destroy_task(s: &mut [u64], t: u64)
     requires { ⌜ (words ≤ length (now s)) × (t ≤ mostObjects) × Tidy (read (now s)) × OutputLow (read (now s)) t
         × holds (made (read (now s)) t) × holds (outputs (read (now s))) ⌝ }
-    ensures { λ r. ⌜ Wrote (now (s .entry)) (now (s .exit)) (destroyTask (read (now (s .entry))) t) ⌝ }
+    ensures { λ r. ⌜ Becomes s (destroyTask (was s) t) ⌝ }
 {
     session::set(s, Field::TaskState, t as usize, names::TASK_DESTROYED);
     destroy_output(s, t);
@@ -75,7 +76,7 @@ fn destroy_task(s: &mut [u64], t: u64)
 // The state of block b once it is destroyed: doomed while somebody holds it. Internal, as `is_held` is.
 fn fate_of(s: &[u64], b: u64) -> u64
     requires { ⌜ (words ≤ length (now s)) × (read (now s) Objects 0 ≤ mostObjects) × (b ≤ mostObjects) × Active (read (now s)) ⌝ }
-    ensures { λ r. ⌜ r ≡ fate (read (now (s .entry))) b ⌝ }
+    ensures { λ r. ⌜ r ≡ fate (was s) b ⌝ }
 {
     if reading::is_held(s, b) {
         return names::DOOMED;
@@ -87,7 +88,7 @@ fn fate_of(s: &[u64], b: u64) -> u64
 fn destroy_block(s: &mut [u64], t: u64, b: u64)
     requires { ⌜ (words ≤ length (now s)) × (read (now s) Objects 0 ≤ mostObjects) × (t ≤ mostObjects) × (1 ≤ b)
         × (b ≤ mostObjects) × Doomed (read (now s)) × Active (read (now s)) ⌝ }
-    ensures { λ r. ⌜ Wrote (now (s .entry)) (now (s .exit)) (destroyBlock (read (now (s .entry))) t b) ⌝ }
+    ensures { λ r. ⌜ Becomes s (destroyBlock (was s) t b) ⌝ }
 {
     holding::let_go_block(s, t, b);
     let state = fate_of(s, b);
@@ -97,7 +98,7 @@ fn destroy_block(s: &mut [u64], t: u64, b: u64)
 // 8 destroy (caller, object), by its kind. Internal: callers have shown the length, a sound session and the checks.
 pub fn destroy(s: &mut [u64], caller: u64, h: u64)
     requires { ⌜ (words ≤ length (now s)) × holds (sound (read (now s))) × met (destroyChecks (read (now s)) caller h) ⌝ }
-    ensures { λ r. ⌜ Wrote (now (s .entry)) (now (s .exit)) (destroy (read (now (s .entry))) caller h) ⌝ }
+    ensures { λ r. ⌜ Becomes s (destroy (was s) caller h) ⌝ }
 {
     let kind = session::get(s, Field::Kind, h as usize);
     if kind == names::TEMPLATE {

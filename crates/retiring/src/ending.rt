@@ -5,7 +5,8 @@ use session::names;
 ghost use Prim.Native.Nat.{_+_, _≤_};
 ghost use lib.ListN.{length};
 ghost use Rattle.session.specs.Names.{mostObjects};
-ghost use Rattle.session.specs.Table.{Wrote, read, words};
+ghost use Rattle.session.specs.Table.{read, words};
+ghost use Rattle.session.specs.Lent.{was, Becomes};
 ghost use Rattle.rules.specs.Formula.{holds};
 ghost use Rattle.rules.specs.Sound.{sound};
 ghost use Rattle.rules.specs.Checks.{endChecks};
@@ -18,7 +19,7 @@ ghost use Rattle.retiring.specs.RetiringParts.{outputFired, OutputLow};
 // handles and a tidy session.
 fn fire_output(s: &mut [u64], t: u64, b: u64)
     requires { ⌜ (words ≤ length (now s)) × (t ≤ mostObjects) × Tidy (read (now s)) × OutputLow (read (now s)) t ⌝ }
-    ensures { λ r. ⌜ Wrote (now (s .entry)) (now (s .exit)) (outputFired (read (now (s .entry))) t b) ⌝ }
+    ensures { λ r. ⌜ Becomes s (outputFired (was s) t b) ⌝ }
 {
     if session::get(s, Field::TaskOutput, t as usize) == 1 {
         if session::get(s, Field::TaskFinish, t as usize) == 0 {
@@ -30,7 +31,7 @@ fn fire_output(s: &mut [u64], t: u64, b: u64)
 // 12 end (task, block or 0). Internal: callers have shown the length, a sound session and the checks.
 pub fn end(s: &mut [u64], t: u64, b: u64)
     requires { ⌜ (words ≤ length (now s)) × holds (sound (read (now s))) × met (endChecks (read (now s)) t b) ⌝ }
-    ensures { λ r. ⌜ Wrote (now (s .entry)) (now (s .exit)) (end (read (now (s .entry))) t b) ⌝ }
+    ensures { λ r. ⌜ Becomes s (end (was s) t b) ⌝ }
 {
     holding::let_go_all(s, t);
     session::set(s, Field::TaskState, t as usize, names::ENDED);

@@ -6,11 +6,12 @@ ghost use mathlib.Core.Bool.{true};
 ghost use Prim.Native.Nat.{_+_, _≤_, _<_};
 ghost use lib.ListN.{length};
 ghost use Rattle.session.specs.Names.{mostObjects, objectPlaces, linkPlaces};
-ghost use Rattle.session.specs.Table.{Wrote, read, put, words};
+ghost use Rattle.session.specs.Table.{read, put, words};
+ghost use Rattle.session.specs.Lent.{was, Becomes};
 ghost use Rattle.session.specs.declared.Field.the-variants.{Objects, EventState, LinkSource, LinkState};
 ghost use Rattle.rules.specs.Formula.{holds, test};
-ghost use Rattle.rules.specs.Reading.{busy};
 ghost use Rattle.rules.specs.Effects.{finishes, fireFinished};
+ghost use Rattle.rules.specs.Descendants.{busy};
 ghost use Rattle.ancestors.specs.Above.{Shows};
 ghost use Rattle.holding.specs.SweepRows.{row};
 ghost use Rattle.retiring.specs.TidyUnderWay.{Tidy};
@@ -22,7 +23,7 @@ ghost use Rattle.retiring.specs.Alone.{Alone, childNear, childless};
 // none. That few tasks have ended is looked at first. Internal: callers have shown the length, a tidy session and the handle.
 fn task_waits(s: &[u64], h: u64) -> bool
     requires { ⌜ (words ≤ length (now s)) × Tidy (read (now s)) × (h ≤ read (now s) Objects 0) ⌝ }
-    ensures { λ r. ⌜ r ≡ test (waits (read (now (s .entry))) h) ⌝ }
+    ensures { λ r. ⌜ r ≡ test (waits (was s) h) ⌝ }
 {
     let t = h as usize;
     if session::get(s, Field::TaskState, t) != names::ENDED {
@@ -49,7 +50,7 @@ fn task_waits(s: &[u64], h: u64) -> bool
 // The creator of task h, or 0 if it is live: no task above a live one can be done. Internal, as `task_waits` is.
 fn done_creator(s: &[u64], h: u64) -> u64
     requires { ⌜ (words ≤ length (now s)) × Tidy (read (now s)) × (h ≤ read (now s) Objects 0) ⌝ }
-    ensures { λ r. ⌜ r ≡ doneCreator (read (now (s .entry))) h ⌝ }
+    ensures { λ r. ⌜ r ≡ doneCreator (was s) h ⌝ }
 {
     let c = session::get(s, Field::TaskCreator, h as usize);
     if session::get(s, Field::TaskState, c as usize) <= names::RUNNING {
@@ -62,7 +63,7 @@ fn done_creator(s: &[u64], h: u64) -> u64
 // `task_waits` is.
 fn first_waiting(s: &[u64], t: u64) -> u64
     requires { ⌜ (words ≤ length (now s)) × Tidy (read (now s)) × (t ≤ read (now s) Objects 0) ⌝ }
-    ensures { λ r. ⌜ Narrowed (read (now (s .entry))) t r × ((r ≡ 0 → ⊥) → holds (waits (read (now (s .entry))) r)) ⌝ }
+    ensures { λ r. ⌜ Narrowed (was s) t r × ((r ≡ 0 → ⊥) → holds (waits (was s) r)) ⌝ }
 {
     if t == 0 {
         return 0;
@@ -78,7 +79,7 @@ fn first_waiting(s: &[u64], t: u64) -> u64
 fn task_finishes(s: &[u64], live: &[u64], h: u64) -> bool
     requires { ⌜ (words ≤ length (now s)) × Tidy (read (now s)) × (h ≤ read (now s) Objects 0)
         × (length (now live) ≡ objectPlaces) × Shows (now live) (busy (read (now s))) ⌝ }
-    ensures { λ r. ⌜ r ≡ test (finishes (read (now (s .entry))) (h + 1)) ⌝ }
+    ensures { λ r. ⌜ r ≡ test (finishes (was s) (h + 1)) ⌝ }
 {
     if live[h as usize] != 0 {
         return false;
@@ -92,7 +93,7 @@ fn mark_task(s: &[u64], live: &[u64], fires: &mut [u64], found: u64, h: u64) -> 
     requires { ⌜ (words ≤ length (now s)) × Tidy (read (now s)) × (1 ≤ h) × (length (now live) ≡ objectPlaces)
         × Shows (now live) (busy (read (now s)))
         × (length (now fires) ≡ objectPlaces) × Climbed (read (now s)) (now fires) found h ⌝ }
-    ensures { λ r. ⌜ Climbed (read (now (s .entry))) (now (fires .exit)) r (doneCreator (read (now (s .entry))) h) ⌝ }
+    ensures { λ r. ⌜ Climbed (was s) (now (fires .exit)) r (doneCreator (was s) h) ⌝ }
 {
     if task_finishes(s, live, h) {
         fires[(h + 1) as usize] = 1;
@@ -110,7 +111,7 @@ fn mark_climbing(s: &[u64], live: &[u64], fires: &mut [u64], found: u64, h: u64)
     requires { ⌜ (words ≤ length (now s)) × Tidy (read (now s)) × (length (now live) ≡ objectPlaces)
         × Shows (now live) (busy (read (now s)))
         × (length (now fires) ≡ objectPlaces) × Climbed (read (now s)) (now fires) found h ⌝ }
-    ensures { λ r. ⌜ Climbed (read (now (s .entry))) (now (fires .exit)) r 0 ⌝ }
+    ensures { λ r. ⌜ Climbed (was s) (now (fires .exit)) r 0 ⌝ }
 {
     if h == 0 {
         return found;
@@ -123,9 +124,7 @@ fn mark_climbing(s: &[u64], live: &[u64], fires: &mut [u64], found: u64, h: u64)
 // Event e is fired if it is marked. Internal: callers have shown the lengths and the handle.
 fn fire_marked(s: &mut [u64], fires: &[u64], e: u64)
     requires { ⌜ (words ≤ length (now s)) × (e ≤ mostObjects) × (length (now fires) ≡ objectPlaces) ⌝ }
-    ensures { λ r. ⌜
-        Wrote (now (s .entry)) (now (s .exit)) (put (read (now (s .entry))) EventState e (fireRow (now (fires .entry)) e (row (read (now (s .entry))) e)))
-        ⌝ }
+    ensures { λ r. ⌜ Becomes s (put (was s) EventState e (fireRow (now (fires .entry)) e (row (was s) e))) ⌝ }
 {
     if fires[e as usize] == 1 {
         session::set(s, Field::EventState, e as usize, names::FIRED);
@@ -136,7 +135,7 @@ fn fire_marked(s: &mut [u64], fires: &[u64], e: u64)
 fn fire_all_marked(s: &mut [u64], fires: &[u64])
     requires { ⌜ (words ≤ length (now s)) × (read (now s) Objects 0 ≤ mostObjects) × (length (now fires) ≡ objectPlaces)
         × Within (now fires) (read (now s) Objects 0) ⌝ }
-    ensures { λ r. ⌜ Wrote (now (s .entry)) (now (s .exit)) (statesFired (read (now (s .entry))) (now (fires .entry))) ⌝ }
+    ensures { λ r. ⌜ Becomes s (statesFired (was s) (now (fires .entry))) ⌝ }
 {
     let n = session::get(s, Field::Objects, 0);
     let mut e: u64 = 0;
@@ -150,9 +149,7 @@ fn fire_all_marked(s: &mut [u64], fires: &[u64])
 fn ready_marked(s: &mut [u64], fires: &[u64], l: u64)
     requires { ⌜ (words ≤ length (now s)) × (l < linkPlaces) × (length (now fires) ≡ objectPlaces)
         × (read (now s) LinkSource l ≤ mostObjects) ⌝ }
-    ensures { λ r. ⌜
-        Wrote (now (s .entry)) (now (s .exit)) (put (read (now (s .entry))) LinkState l (readyRow (now (fires .entry)) l (row (read (now (s .entry))) l)))
-        ⌝ }
+    ensures { λ r. ⌜ Becomes s (put (was s) LinkState l (readyRow (now (fires .entry)) l (row (was s) l))) ⌝ }
 {
     let e = session::get(s, Field::LinkSource, l as usize) as usize;
     if fires[e] == 1 {
@@ -165,7 +162,7 @@ fn ready_marked(s: &mut [u64], fires: &[u64], l: u64)
 // Every open link of a marked event is ready. Internal: callers have shown the lengths and a tidy session.
 fn ready_all_marked(s: &mut [u64], fires: &[u64])
     requires { ⌜ (words ≤ length (now s)) × Tidy (read (now s)) × (length (now fires) ≡ objectPlaces) ⌝ }
-    ensures { λ r. ⌜ Wrote (now (s .entry)) (now (s .exit)) (linksReady (read (now (s .entry))) (now (fires .entry))) ⌝ }
+    ensures { λ r. ⌜ Becomes s (linksReady (was s) (now (fires .entry))) ⌝ }
 {
     let n = session::get(s, Field::Links, 0);
     let mut l: u64 = 0;
@@ -179,7 +176,7 @@ fn ready_all_marked(s: &mut [u64], fires: &[u64])
 fn fire_by_marks(s: &mut [u64], fires: &[u64])
     requires { ⌜ (words ≤ length (now s)) × Tidy (read (now s)) × (length (now fires) ≡ objectPlaces)
         × Within (now fires) (read (now s) Objects 0) ⌝ }
-    ensures { λ r. ⌜ Wrote (now (s .entry)) (now (s .exit)) (linksReady (statesFired (read (now (s .entry))) (now (fires .entry))) (now (fires .entry))) ⌝ }
+    ensures { λ r. ⌜ Becomes s (linksReady (statesFired (was s) (now (fires .entry))) (now (fires .entry))) ⌝ }
 {
     fire_all_marked(s, fires);
     ready_all_marked(s, fires);
@@ -189,7 +186,7 @@ fn fire_by_marks(s: &mut [u64], fires: &[u64])
 // several share one pass over the links. Internal, as `fire_finished` is.
 fn fire_above(s: &mut [u64], t: u64)
     requires { ⌜ (words ≤ length (now s)) × Tidy (read (now s)) × OnlyAbove (read (now s)) t ⌝ }
-    ensures { λ r. ⌜ Wrote (now (s .entry)) (now (s .exit)) (fireFinished (read (now (s .entry)))) ⌝ }
+    ensures { λ r. ⌜ Becomes s (fireFinished (was s)) ⌝ }
 {
     let live = ancestors::busy_marks(s);
     let mut fires: [u64; names::OBJECT_PLACES] = [0; names::OBJECT_PLACES];
@@ -207,8 +204,8 @@ fn fire_above(s: &mut [u64], t: u64)
 // Whether one of the eight handles from d on was made by task h. The bound is constant, so that the eight tests stand in a
 // row. Internal: callers have shown the length and the handles.
 fn has_child(s: &[u64], h: u64, d: usize) -> bool
-    requires { ⌜ (words ≤ length (now s)) × (d ≤ 505) ⌝ }
-    ensures { λ r. ⌜ r ≡ test (childNear (read (now (s .entry))) h d) ⌝ }
+    requires { ⌜ (words ≤ length (now s)) × (d + 8 ≤ objectPlaces) ⌝ }
+    ensures { λ r. ⌜ r ≡ test (childNear (was s) h d) ⌝ }
 {
     let mut k: usize = 0;
     while k < 8 {
@@ -223,7 +220,7 @@ fn has_child(s: &[u64], h: u64, d: usize) -> bool
 // Whether no task was made by h: whoever was made by it has a higher handle. Internal, as `task_waits` is; and h is not 0.
 fn is_childless(s: &[u64], h: u64) -> bool
     requires { ⌜ (words ≤ length (now s)) × Tidy (read (now s)) × (1 ≤ h) × (h ≤ read (now s) Objects 0) ⌝ }
-    ensures { λ r. ⌜ r ≡ test (childless (read (now (s .entry))) h) ⌝ }
+    ensures { λ r. ⌜ r ≡ test (childless (was s) h) ⌝ }
 {
     let n = session::get(s, Field::Objects, 0) as usize;
     let mut d = h as usize;
@@ -246,7 +243,7 @@ fn is_childless(s: &[u64], h: u64) -> bool
 // task. Internal: callers have shown the length, a tidy session, that h waits, and that only what is above it can finish.
 fn fires_alone(s: &[u64], h: u64) -> bool
     requires { ⌜ (words ≤ length (now s)) × Tidy (read (now s)) × (1 ≤ h) × OnlyAbove (read (now s)) h × holds (waits (read (now s)) h) ⌝ }
-    ensures { λ r. ⌜ (r ≡ true → Alone (read (now (s .entry))) (h + 1)) ⌝ }
+    ensures { λ r. ⌜ (r ≡ true → Alone (was s) (h + 1)) ⌝ }
 {
     let c = done_creator(s, h);
     if first_waiting(s, c) != 0 {
@@ -259,7 +256,7 @@ fn fires_alone(s: &[u64], h: u64) -> bool
 // needed to tell. Internal: callers have shown the length, a tidy session, and that no other event can finish.
 pub fn fire_finished(s: &mut [u64], t: u64)
     requires { ⌜ (words ≤ length (now s)) × Tidy (read (now s)) × OnlyAbove (read (now s)) t ⌝ }
-    ensures { λ r. ⌜ Wrote (now (s .entry)) (now (s .exit)) (fireFinished (read (now (s .entry)))) ⌝ }
+    ensures { λ r. ⌜ Becomes s (fireFinished (was s)) ⌝ }
 {
     let h = first_waiting(s, t);
     if h == 0 {

@@ -4,7 +4,7 @@ use mathlib.Core.Path.{_≡_, refl}
 use mathlib.Core.Bool.{Bool, true, false, _&&_, _||_, not}
 use lib.Dec.{eqb, leb, ltb}
 use Rattle.session.specs.Table.{pick}
-use Rattle.rules.specs.Formula.{Formula, holds, test, choose, Formula._≐_, Formula._≼_, Formula._and_, Formula._or_}
+use Rattle.rules.specs.Formula.{Formula, test, choose, Formula._≐_, Formula._≼_, Formula._and_, Formula._or_}
 use Rattle.rules.specs.Formula.{Formula._then_, Formula.never}
 
 pub test-eq : (a b : ℕ) → test (a ≐ b) ≡ eqb a b

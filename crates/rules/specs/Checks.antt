@@ -108,11 +108,17 @@ module _ (s : Session) where
   abbrev pub deliverChecks : ℕ → List Check
   deliverChecks l = check 9 (1 ≼ l and l ≼ s Links 0) ∷ check 16 (s LinkState l ≐ ready) ∷ []
 
+  -- slot k holds, for another task than t, the block that slot i asks for, in a mode that stops it
+  abbrev pub slotStops : ℕ → ℕ → ℕ → Formula
+  slotStops t i k =
+      not (k / 16 ≐ t) and s SlotMark k ≐ held and s SlotPayload k ≐ s SlotPayload i
+      and stoppedBy (s SlotMode i) (s SlotMode k)
+
   -- "A hold of another task conflicts": none stops what slot i of task t asks for
   abbrev pub slotFree : ℕ → ℕ → Formula
   slotFree t i =
       s SlotPayload i ≐ 0
-      or not (some (16 * (s Objects 0 + 1)) (λ k. not (k / 16 ≐ t) and s SlotMark k ≐ held and s SlotPayload k ≐ s SlotPayload i and stoppedBy (s SlotMode i) (s SlotMode k)))
+      or not (some (16 * (s Objects 0 + 1)) (slotStops t i))
       and not (s BlockHeld (s SlotPayload i) ≐ 1 and not (s BlockCreator (s SlotPayload i) ≐ t) and stoppedBy (s SlotMode i) modeRW)
 
   -- "10 grant (task)"; 16: "grant resolved"; 17: "A pre-slot's block is doomed or destroyed"; 18: slotFree.

@@ -4,6 +4,8 @@ pub mod Bools
 pub mod EventTypes
 pub mod EventTypeLaws
 pub mod Reading
+pub mod Descendants
+pub mod LastLine
 pub mod Modes
 pub mod ModeLaws
 pub mod Checks

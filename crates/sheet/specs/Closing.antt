@@ -14,7 +14,8 @@ use Rattle.session.specs.declared.Field.the-variants.{Objects, Links, Kind, Lin
 use Rattle.session.specs.TableLaws.{read-past}
 use Rattle.rules.specs.Formula.{Formula, holds, choose, count}
 use Rattle.rules.specs.FormulaLaws.{choose-yes, choose-no}
-use Rattle.rules.specs.Reading.{isLive, isUndelivered, liveTasks, undeliveredLinks, droppedCount}
+use Rattle.rules.specs.Reading.{isLive, isUndelivered}
+use Rattle.rules.specs.LastLine.{liveTasks, undeliveredLinks, droppedCount}
 use Rattle.laws.specs.Counting.{count-no}
 use Rattle.sheet.specs.declared.Closed.{Closed}
 use Rattle.sheet.specs.Run.{Lines, lineRoom, lastLine}

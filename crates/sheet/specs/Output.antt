@@ -11,8 +11,9 @@ use Rattle.session.specs.Names.{delivered}
 use Rattle.session.specs.Fresh.{freshSession}
 use Rattle.rules.specs.Formula.{holds, Formula._≐_}
 use Rattle.rules.specs.FormulaLaws.{passes}
-use Rattle.rules.specs.Reading.{isLive, isUndelivered, liveTasks, undeliveredLinks, droppedCount}
+use Rattle.rules.specs.Reading.{isLive, isUndelivered}
 use Rattle.rules.specs.Sound.{sound}
+use Rattle.rules.specs.LastLine.{liveTasks, undeliveredLinks, droppedCount}
 use Rattle.laws.specs.Counting.{count-most}
 use Rattle.laws.specs.Rows.Name.{counts, dropped}
 use Rattle.laws.specs.ByName.{kept-sound, sound-by-name}

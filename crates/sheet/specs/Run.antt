@@ -7,9 +7,9 @@ use Rattle.number.specs.Number.{splice}
 use Rattle.lines.specs.Line.{line}
 use Rattle.session.specs.Table.{Session}
 use Rattle.rules.specs.Formula.{Formula, choose, not, Formula._≐_, Formula._≼_}
-use Rattle.rules.specs.Reading.{liveTasks, undeliveredLinks, droppedCount}
 use Rattle.rules.specs.Sound.{sound}
 use Rattle.rules.specs.Step.{step}
+use Rattle.rules.specs.LastLine.{liveTasks, undeliveredLinks, droppedCount}
 use Rattle.record.specs.Reading.{recordAt}
 use Rattle.record.specs.Sheet.{headRefusal, firstRecord}
 

@@ -5,13 +5,15 @@ ghost use mathlib.Core.Path.{_≡_};
 ghost use Prim.Native.Nat.{_+_, _≤_};
 ghost use lib.ListN.{length};
 ghost use Rattle.session.specs.Names.{mostObjects, mostLinks, objectPlaces, linkPlaces};
-ghost use Rattle.session.specs.Table.{read, words};
+ghost use Rattle.session.specs.Table.{words};
+ghost use Rattle.session.specs.Lent.{was};
 ghost use Rattle.rules.specs.Formula.{count};
-ghost use Rattle.rules.specs.Reading.{isLive, isUndelivered, liveTasks, undeliveredLinks};
+ghost use Rattle.rules.specs.Reading.{isLive, isUndelivered};
+ghost use Rattle.rules.specs.LastLine.{liveTasks, undeliveredLinks};
 
 fn count_live(s: &[u64], last: u64) -> u64
     requires { ⌜ (words ≤ length (now s)) × (last ≤ mostObjects) ⌝ }
-    ensures answer { λ r. ⌜ r ≡ count (last + 1) (isLive (read (now (s .entry)))) ⌝ }
+    ensures answer { λ r. ⌜ r ≡ count (last + 1) (isLive (was s)) ⌝ }
     ensures few { λ r. ⌜ r ≤ objectPlaces ⌝ }
 {
     let mut found: u64 = 0;
@@ -27,7 +29,7 @@ fn count_live(s: &[u64], last: u64) -> u64
 
 fn count_undelivered(s: &[u64], last: u64) -> u64
     requires { ⌜ (words ≤ length (now s)) × (last ≤ mostLinks) ⌝ }
-    ensures answer { λ r. ⌜ r ≡ count (last + 1) (isUndelivered (read (now (s .entry)))) ⌝ }
+    ensures answer { λ r. ⌜ r ≡ count (last + 1) (isUndelivered (was s)) ⌝ }
     ensures few { λ r. ⌜ r ≤ linkPlaces ⌝ }
 {
     let mut found: u64 = 0;
@@ -44,7 +46,7 @@ fn count_undelivered(s: &[u64], last: u64) -> u64
 // The live tasks. Memory that says that there are more objects than it has places for has none past those.
 pub fn live_tasks(s: &[u64]) -> u64
     requires { ⌜ words ≤ length (now s) ⌝ }
-    ensures answer { λ r. ⌜ r ≡ liveTasks (read (now (s .entry))) ⌝ }
+    ensures answer { λ r. ⌜ r ≡ liveTasks (was s) ⌝ }
     ensures few { λ r. ⌜ r ≤ objectPlaces ⌝ }
 {
     let objects = session::get(s, Field::Objects, 0);
@@ -57,7 +59,7 @@ pub fn live_tasks(s: &[u64]) -> u64
 // The undelivered links, in the same way.
 pub fn undelivered_links(s: &[u64]) -> u64
     requires { ⌜ words ≤ length (now s) ⌝ }
-    ensures answer { λ r. ⌜ r ≡ undeliveredLinks (read (now (s .entry))) ⌝ }
+    ensures answer { λ r. ⌜ r ≡ undeliveredLinks (was s) ⌝ }
     ensures few { λ r. ⌜ r ≤ linkPlaces ⌝ }
 {
     let links = session::get(s, Field::Links, 0);

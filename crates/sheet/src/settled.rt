@@ -6,6 +6,7 @@ ghost use mathlib.Core.Path.{_≡_};
 ghost use Prim.Native.Nat.{_+_, _≤_};
 ghost use lib.ListN.{length};
 ghost use Rattle.session.specs.Table.{read, words};
+ghost use Rattle.session.specs.Lent.{was};
 ghost use Rattle.rules.specs.Formula.{holds, test};
 ghost use Rattle.rules.specs.Sound.{sound, settled};
 ghost use Rattle.sheet.specs.Settled.{linkSettled, Leads};
@@ -13,7 +14,7 @@ ghost use Rattle.sheet.specs.Settled.{linkSettled, Leads};
 // Whether link l is delivered, leads to an event, or to a slot that is not satisfied.
 fn is_link_settled(s: &[u64], l: u64) -> bool
     requires { ⌜ (words ≤ length (now s)) × Leads (read (now s)) l ⌝ }
-    ensures { λ r. ⌜ r ≡ test (linkSettled (read (now (s .entry))) l) ⌝ }
+    ensures { λ r. ⌜ r ≡ test (linkSettled (was s) l) ⌝ }
 {
     if session::get(s, Field::LinkState, l as usize) == names::DELIVERED {
         return true;
@@ -29,7 +30,7 @@ fn is_link_settled(s: &[u64], l: u64) -> bool
 // Looks at each link once, where the rule goes by slots.
 pub fn is_settled(s: &[u64]) -> bool
     requires { ⌜ (words ≤ length (now s)) × holds (sound (read (now s))) ⌝ }
-    ensures { λ r. ⌜ r ≡ test (settled (read (now (s .entry)))) ⌝ }
+    ensures { λ r. ⌜ r ≡ test (settled (was s)) ⌝ }
 {
     let links = session::get(s, Field::Links, 0);
     let mut l: u64 = 0;

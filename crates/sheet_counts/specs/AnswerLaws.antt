@@ -9,8 +9,8 @@ use Rattle.session.specs.Table.{Session}
 use Rattle.session.specs.Fresh.{freshSession}
 use Rattle.rules.specs.Formula.{Formula, test, choose, not, Formula._≐_, Formula._≼_}
 use Rattle.rules.specs.FormulaLaws.{Case, decide, choose-yes, choose-no, Case.it-does, Case.it-does-not}
-use Rattle.rules.specs.Reading.{liveTasks, undeliveredLinks, droppedCount}
 use Rattle.rules.specs.Sound.{sound}
+use Rattle.rules.specs.LastLine.{liveTasks, undeliveredLinks, droppedCount}
 use Rattle.record.specs.Reading.{recordAt}
 use Rattle.record.specs.Sheet.{headRefusal, firstRecord}
 use Rattle.sheet.specs.Run.{lastLine}

@@ -7,9 +7,9 @@ use Rattle.session.specs.Table.{Session}
 use Rattle.session.specs.Fresh.{freshSession}
 use Rattle.rules.specs.declared.Operation.{Operation}
 use Rattle.rules.specs.Formula.{Formula, choose, not, Formula._≐_, Formula._≼_, Formula._and_}
-use Rattle.rules.specs.Reading.{droppedCount}
 use Rattle.rules.specs.Sound.{sound}
 use Rattle.rules.specs.Step.{step}
+use Rattle.rules.specs.LastLine.{droppedCount}
 use Rattle.record.specs.Reading.{recordAt}
 use Rattle.record.specs.Sheet.{headRefusal, firstRecord}
 use Rattle.sheet.specs.Printed.{printSheet}

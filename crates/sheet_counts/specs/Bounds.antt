@@ -11,9 +11,9 @@ use Rattle.session.specs.declared.Field.the-variants.{Links, LinkState}
 use Rattle.session.specs.Names.{delivered, mostLinks}
 use Rattle.rules.specs.Formula.{Formula, holds, count, not, Formula._≐_, Formula._≼_}
 use Rattle.rules.specs.FormulaLaws.{Case, decide, choose-case, Case.it-does, Case.it-does-not}
-use Rattle.rules.specs.Reading.{droppedCount}
 use Rattle.rules.specs.Sound.{sound, kept}
 use Rattle.rules.specs.Step.{step}
+use Rattle.rules.specs.LastLine.{droppedCount}
 use Rattle.record.specs.Reading.{recordAt}
 use Rattle.record.specs.Sheet.{headRefusal, firstRecord}
 use Rattle.laws.specs.Counting.{count-yes, count-no}

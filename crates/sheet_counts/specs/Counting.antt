@@ -7,9 +7,9 @@ use lib.ListN.{length, drop, length-append}
 use Rattle.session.specs.Table.{Session, Wrote, read, words}
 use Rattle.rules.specs.Formula.{holds, not, Formula._≐_, Formula._and_}
 use Rattle.rules.specs.FormulaLaws.{choose-yes, choose-no}
-use Rattle.rules.specs.Reading.{droppedCount}
 use Rattle.rules.specs.Sound.{sound, kept}
 use Rattle.rules.specs.Step.{step}
+use Rattle.rules.specs.LastLine.{droppedCount}
 use Rattle.record.specs.Reading.{recordAt}
 use Rattle.record.specs.Laws.{record-forward}
 use Rattle.laws.specs.ByName.{kept-sound}

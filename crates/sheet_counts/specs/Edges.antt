@@ -6,13 +6,13 @@ use Rattle.number.specs.Number.{more, value, lastByte, shortest, judged, readFi
 use Rattle.session.specs.Table.{put, change}
 use Rattle.session.specs.Fresh.{freshSession}
 use Rattle.rules.specs.Formula.{test, count}
-use Rattle.rules.specs.Reading.{under}
 use Rattle.rules.specs.Checks.{refusal}
 use Rattle.rules.specs.EventTypes.{ofType}
 use Rattle.rules.specs.Effects.{new, newTemplate, newEvent, newTask, makeTask, fire, fireOne, satisfySlot, tally, satisfyEvent}
 use Rattle.rules.specs.Effects.{satisfy, claim, newLink, depend, buryDoomed, letGo, destroyEvent, fireFinished, destroyTask}
 use Rattle.rules.specs.Effects.{destroy, drops, deliver, grant, start}
 use Rattle.rules.specs.Step.{rules, answer, after}
+use Rattle.rules.specs.Descendants.{under}
 use Rattle.record.specs.Reading.{behind, place, five, answered, recordAt}
 use Rattle.sheet_counts.specs.declared.Tally.{Tally}
 use Rattle.sheet_counts.specs.Answers.{countsOf}

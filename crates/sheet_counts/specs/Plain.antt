@@ -8,9 +8,9 @@ use Rattle.session.specs.Table.{Session}
 use Rattle.session.specs.Fresh.{freshSession}
 use Rattle.rules.specs.Formula.{holds, choose, not, Formula._≐_, Formula._≼_}
 use Rattle.rules.specs.FormulaLaws.{Case, decide, choose-yes, choose-no, Case.it-does, Case.it-does-not}
-use Rattle.rules.specs.Reading.{droppedCount}
 use Rattle.rules.specs.Sound.{kept}
 use Rattle.rules.specs.Step.{answer, after, step}
+use Rattle.rules.specs.LastLine.{droppedCount}
 use Rattle.record.specs.Reading.{recordAt}
 use Rattle.record.specs.Sheet.{headRefusal, firstRecord}
 use Rattle.laws.specs.Fresh.{fresh-kept}

@@ -2,7 +2,8 @@
 ghost use mathlib.Core.Path.{_≡_};
 ghost use Prim.Native.Nat.{_≤_, _<_};
 ghost use lib.ListN.{length};
-ghost use Rattle.session.specs.Table.{Wrote, read, words};
+ghost use Rattle.session.specs.Table.{read, words};
+ghost use Rattle.session.specs.Lent.{was, Becomes};
 ghost use Rattle.session.specs.Fresh.{freshSession};
 ghost use Rattle.rules.specs.Formula.{holds, Formula._≐_};
 ghost use Rattle.rules.specs.Sound.{sound, kept};
@@ -65,8 +66,8 @@ fn is_start(code: u64) -> u64
 // Runs an operation on a sound session and counts its answer. Internal.
 fn count_operation(memory: &mut [u64], op: Operation) -> Told
     requires { ⌜ (words ≤ length (now memory)) × holds (sound (read (now memory))) ⌝ }
-    ensures session { λ r. ⌜ Wrote (now (memory .entry)) (now (memory .exit)) (step (read (now (memory .entry))) op .leaves) ⌝ }
-    ensures counts { λ r. ⌜ r ≡ told (step (read (now (memory .entry))) op .refused) (op .code) ⌝ }
+    ensures session { λ r. ⌜ Becomes memory (step (was memory) op .leaves) ⌝ }
+    ensures counts { λ r. ⌜ r ≡ told (step (was memory) op .refused) (op .code) ⌝ }
 {
     let start = is_start(op.code);
     match engine::apply_sound(memory, op) {
@@ -98,7 +99,7 @@ fn count_record(sheet: &[u8], at: usize, memory: &mut [u64]) -> Went
 // The counts, with the session's own of dropped deliveries. Internal.
 fn with_dropped(memory: &[u64], records: u64, refused: u64, starts: u64) -> Tally
     requires { ⌜ words ≤ length (now memory) ⌝ }
-    ensures { λ r. ⌜ r ≡ tallyOf records refused starts (read (now (memory .entry))) ⌝ }
+    ensures { λ r. ⌜ r ≡ tallyOf records refused starts (was memory) ⌝ }
 {
     Tally {
         records,
@@ -111,8 +112,8 @@ fn with_dropped(memory: &[u64], records: u64, refused: u64, starts: u64) -> Tall
 // Runs the records from a place on, on a kept session, and counts. Internal.
 fn count_records(sheet: &[u8], first: usize, memory: &mut [u64]) -> Tally
     requires { ⌜ (words ≤ length (now memory)) × holds (kept (read (now memory))) ⌝ }
-    ensures counts { λ r. ⌜ r ≡ countsFrom (now (sheet .entry)) first (read (now (memory .entry))) ⌝ }
-    ensures session { λ r. ⌜ Wrote (now (memory .entry)) (now (memory .exit)) (leftFrom (now (sheet .entry)) first (read (now (memory .entry)))) ⌝ }
+    ensures counts { λ r. ⌜ r ≡ countsFrom (now (sheet .entry)) first (was memory) ⌝ }
+    ensures session { λ r. ⌜ Becomes memory (leftFrom (now (sheet .entry)) first (was memory)) ⌝ }
 {
     let mut at = first;
     let mut records: u64 = 0;
@@ -138,7 +139,7 @@ fn count_records(sheet: &[u8], first: usize, memory: &mut [u64]) -> Tally
 pub fn count_fresh(sheet: &[u8], memory: &mut [u64]) -> Tally
     requires { ⌜ (words ≤ length (now memory)) × (read (now memory) ≡ freshSession) ⌝ }
     ensures counts { λ r. ⌜ r ≡ countsOf (now (sheet .entry)) ⌝ }
-    ensures session { λ r. ⌜ Wrote (now (memory .entry)) (now (memory .exit)) (printSheet (now (sheet .entry)) freshSession .session) ⌝ }
+    ensures session { λ r. ⌜ Becomes memory (printSheet (now (sheet .entry)) freshSession .session) ⌝ }
 {
     match record::read_head(sheet) {
         Place::Refused(_) => with_dropped(memory, 1, 1, 0),
@@ -150,7 +151,7 @@ pub fn count_fresh(sheet: &[u8], memory: &mut [u64]) -> Tally
 pub fn count_sheet(sheet: &[u8], memory: &mut [u64]) -> Tally
     requires { ⌜ (words ≤ length (now memory)) × holds (kept (read (now memory))) ⌝ }
     ensures counts { λ r. ⌜ r ≡ countsOf (now (sheet .entry)) ⌝ }
-    ensures session { λ r. ⌜ Wrote (now (memory .entry)) (now (memory .exit)) (printSheet (now (sheet .entry)) freshSession .session) ⌝ }
+    ensures session { λ r. ⌜ Becomes memory (printSheet (now (sheet .entry)) freshSession .session) ⌝ }
 {
     session::renew(memory);
     count_fresh(sheet, memory)

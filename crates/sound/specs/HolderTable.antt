@@ -20,8 +20,8 @@ use Rattle.rules.specs.FormulaLaws.{passes, fails, test-same}
 use Rattle.rules.specs.Modes.{conflict, isMode}
 use Rattle.rules.specs.ModeLaws.{conflict-not-RO}
 use Rattle.laws.specs.Places.{Places, places, Places.one, Places.two}
-use Rattle.sound.specs.Bodies.{clash}
 use Rattle.rules.specs.Bools.{test-both, test-either, test-not}
+use Rattle.rules.specs.Sound.{clash}
 use Rattle.sound.specs.Held.{some-skip, some-keep}
 
 -- the place of block b and mode c + 1
@@ -145,8 +145,10 @@ module _ (s : Session) where
           rw (getD-set-other a x (cell b c) v 0 (λ z. w (sym z)))
           (h .says b c t p q r ∙ sym
           (other-same i b (c + 1) t
-          (λ y. let e : s SlotPayload i ≡ b = y .1 .1 .0 in let d : s SlotMode i ≡ c + 1 = y .1 .1 .1 in w
-          (rw (e, d) (ap (λ (n : ℕ). cell b n) (omega arith))))))
+          (λ y. w (elsewhere y))))
+        where
+          elsewhere : holds (otherAt b (c + 1) t i) → x ≡ cell b c
+          elsewhere (mark, (owner, (e, d))) = rw (e, d) (ap (λ (n : ℕ). cell b n) (omega arith))
 
   -- an earlier slot conflicts with slot i
   abbrev pub clashes : ℕ → Formula
@@ -163,19 +165,8 @@ module _ (s : Session) where
   clashes-same i m = test-same (clashesBy i) (clashes i) to from
     where
       one-way : (c : ℕ) → holds (conflict (s SlotMode i) c and other i (s SlotPayload i) c (i / 16)) → holds (clashes i)
-      one-way c x =
-          let y = x .1 in
-          let k = y .2 in (
-            y .0,
-            y .1,
-            (
-              k .0,
-              (
-                k .1 .0,
-                (k .1 .1 .0, subst (λ (n : ℕ). holds (conflict (s SlotMode i) n)) (sym (k .1 .1 .1)) (x .0)),
-              ),
-            ),
-          )
+      one-way c (conflicts, (k, b, (mark, (apart, (block, mode))))) =
+          (k, b, (mark, (apart, (block, subst (λ (n : ℕ). holds (conflict (s SlotMode i) n)) (sym mode) conflicts))))
 
       to : holds (clashesBy i) → holds (clashes i)
       to (inl x) = one-way 2 x
@@ -184,8 +175,11 @@ module _ (s : Session) where
 
       back : (k c : ℕ) → k < i → holds (clash s i k) → s SlotMode k ≡ c
           → holds (conflict (s SlotMode i) c and other i (s SlotPayload i) c (i / 16))
-      back k c b x e =
-          (subst (λ (n : ℕ). holds (conflict (s SlotMode i) n)) e (x .1 .1 .1), (k, b, (x .0, (x .1 .0, (x .1 .1 .0, e)))))
+      back k c b (mark, (apart, (block, conflicts))) e =
+          (subst (λ (n : ℕ). holds (conflict (s SlotMode i) n)) e conflicts, (k, b, (mark, (apart, (block, e)))))
+
+      modes : (k : ℕ) → holds (clash s i k) → holds (conflict (s SlotMode i) (s SlotMode k))
+      modes k (mark, (apart, (block, conflicts))) = conflicts
 
       from : holds (clashes i) → holds (clashesBy i)
       from y = go (places (s SlotMode k) 2) (places (s SlotMode k) 3)
@@ -197,7 +191,7 @@ module _ (s : Session) where
           mode = m k (y .1) (y .2 .0)
 
           writes : s SlotMode k ≡ modeRO → ⊥
-          writes = conflict-not-RO (s SlotMode i) (s SlotMode k) (y .2 .1 .1 .1)
+          writes = conflict-not-RO (s SlotMode i) (s SlotMode k) (modes k (y .2))
 
           go : Places (s SlotMode k) 2 → Places (s SlotMode k) 3 → holds (clashesBy i)
           go (one e) z = inl (back k 2 (y .1) (y .2) e)

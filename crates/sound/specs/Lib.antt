@@ -1,5 +1,4 @@
 pub mod Loops
-pub mod Bodies
 pub mod Row
 pub mod LinkOf
 pub mod Held

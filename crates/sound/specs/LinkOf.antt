@@ -19,12 +19,11 @@ use Rattle.rules.specs.FormulaLaws.{passes, passed, failed, Case, decide, choos
 use Rattle.rules.specs.FormulaLaws.{test-same}
 use Rattle.rules.specs.Reading.{at, isKind}
 use Rattle.rules.specs.Sound.{isPayload, objects, links, oneLink, slot, slots, claimed, unclaimed, leadsTo, noLink, noSlot}
-use Rattle.rules.specs.Sound.{isLink}
+use Rattle.rules.specs.Sound.{isLink, linkAt}
 use Rattle.laws.specs.Parts.{made-taskPart}
 use Rattle.laws.specs.Conjuncts.{link-by-name, Linked.target-made, Linked.has-slot}
 use Rattle.laws.specs.SlotPlaces.{same-task, same-slot, low-slot}
 use Rattle.laws.specs.Places.{Places, places, Places.one, Places.two}
-use Rattle.sound.specs.Bodies.{linkAt}
 use Rattle.sound.specs.Row.{Row, row-set, row-same}
 use Rattle.rules.specs.Bools.{test-both, test-either}
 
@@ -38,6 +37,12 @@ module _ (s : Session) where
   -- link l leads to the slot of a task at place p
   abbrev pub leads : ℕ → ℕ → Formula
   leads l p = 1 ≼ l and isKind s task (s LinkTarget l) and at (s LinkTarget l) (s LinkSlot l) ≐ p
+
+  pub leads-task : (l p : ℕ) → holds (leads l p) → s Kind (s LinkTarget l) ≡ task
+  leads-task l p (low, (kind, place)) = kind
+
+  pub leads-place : (l p : ℕ) → holds (leads l p) → at (s LinkTarget l) (s LinkSlot l) ≡ p
+  leads-place l p (low, (kind, place)) = place
 
   -- the last of the first n links that leads to the slot at place p, 0 if none does
   unfoldable pub lastLink : ℕ → ℕ → ℕ
@@ -218,8 +223,8 @@ module _ (s : Session) where
                 let bm : m < N = at-m .0 in
                 let lm : s LinkSlot m < 16 = low m bm (omega arith) in
                 let ll : s LinkSlot l < 16 = low l b o in
-                let pl : at (s LinkTarget m) (s LinkSlot m) ≡ at (s LinkTarget l) (s LinkSlot l) = at-m .1 .1 .1 in
-                absurd (h m bm l (omega arith) (at-m .1 .1 .0)
+                let pl = leads-place m p (at-m .1) in
+                absurd (h m bm l (omega arith) (leads-task m p (at-m .1))
                 (sym (same-task _ _ _ _ ll lm pl), sym (same-slot _ _ _ _ ll lm pl)))
 
     module _ (u : holds (oneLink s)) (h j : ℕ) (t : s Kind h ≡ task) (jl : j < 16) where
@@ -231,7 +236,7 @@ module _ (s : Session) where
       last-there o =
           let x = last-leads N (at h j) o in
           let lm : s LinkSlot M < 16 = low M (x .0) o in
-          let pl : at (s LinkTarget M) (s LinkSlot M) ≡ at h j = x .1 .1 .1 in
+          let pl = leads-place M (at h j) (x .1) in
           (x .0, (same-task _ _ _ _ jl lm pl, same-slot _ _ _ _ jl lm pl))
 
       -- and any that leads there is that one
@@ -263,11 +268,11 @@ module _ (s : Session) where
           go (no n) = omega arith
 
       unclaimed-to : holds (unclaimed s h j) → holds (unclaimedBy M h j)
-      unclaimed-to x = (x .0, (x .1 .0, (x .1 .1 .0, zero-to (x .1 .1 .1))))
+      unclaimed-to (mode, (mark, (paid, none))) = (mode, (mark, (paid, zero-to none)))
 
       unclaimed-from : holds (unclaimedBy M h j) → holds (unclaimed s h j)
-      unclaimed-from x =
-          (x .0, (x .1 .0, (x .1 .1 .0, λ z. let o = only (z .0) (z .1) (z .2) .0 in let e : M ≡ 0 = x .1 .1 .1 in omega arith)))
+      unclaimed-from (mode, (mark, (paid, none))) =
+          (mode, (mark, (paid, λ z. let o = only (z .0) (z .1) (z .2) .0 in omega (arith, none))))
 
       abbrev undelivered : ℕ → Formula
       undelivered l = not (s LinkState l ≐ delivered)
@@ -299,31 +304,13 @@ module _ (s : Session) where
 
       either-to : holds (unclaimed s h j or claimed s h j) → holds (unclaimedBy M h j or claimedBy M h j)
       either-to (inl x) = inl (unclaimed-to x)
-      either-to (inr x) =
-          inr (
-            x .0,
-            (
-              x .1 .0,
-              (x .1 .1 .0, (x .1 .1 .1 .0, (x .1 .1 .1 .1 .0, (linked-to (x .1 .1 .1 .1 .1 .0), paid-to (x .1 .1 .1 .1 .1 .1))))),
-            ),
-          )
+      either-to (inr (low, (high, (mark, (payload, (empty, (waits, brought))))))) =
+          inr (low, (high, (mark, (payload, (empty, (linked-to waits, paid-to brought))))))
 
       either-from : holds (unclaimedBy M h j or claimedBy M h j) → holds (unclaimed s h j or claimed s h j)
       either-from (inl x) = inl (unclaimed-from x)
-      either-from (inr x) =
-          inr (
-            x .0,
-            (
-              x .1 .0,
-              (
-                x .1 .1 .0,
-                (
-                  x .1 .1 .1 .0,
-                  (x .1 .1 .1 .1 .0, (linked-from (x .1 .1 .1 .1 .1 .0), paid-from (x .1 .1 .1 .1 .1 .1))),
-                ),
-              ),
-            ),
-          )
+      either-from (inr (low, (high, (mark, (payload, (empty, (waits, brought))))))) =
+          inr (low, (high, (mark, (payload, (empty, (linked-from waits, paid-from brought))))))
 
     slot-to : holds (oneLink s) → (h j : ℕ) → j < 16 → holds (slot s h j) → holds (slotAt h j)
     slot-to u h j l (inl x) = inl (x .0, (x .1 .0, either-to u h j (x .0) l (x .1 .1)))

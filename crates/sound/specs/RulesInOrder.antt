@@ -18,8 +18,11 @@ use Rattle.rules.specs.Sound.{isPayload, sound, counts, objects, roots, creator
 use Rattle.rules.specs.Sound.{oneLink, states, blocks, compatible, latches, dropped, unused}
 use Rattle.rules.specs.FormulaLaws.{test-same}
 use Rattle.laws.specs.SlotPlaces.{place-split, place-low, place-owner}
-use Rattle.laws.specs.ByName.{Rules, rules-of, sound-from}
+use Rattle.laws.specs.Parts.{taskParts-of}
+use Rattle.laws.specs.Under.{Falls, creators-fall}
+use Rattle.laws.specs.ByName.{Rules, rules-of, sound-from, _&_}
 use Rattle.laws.specs.SlotModes.{held-mode}
+use Rattle.laws.specs.Conjuncts.{claimed-by-name, unclaimed-by-name, Claimed.payload}
 
 -- the answer on lent memory: memory that is too short is not sound
 unfoldable pub soundMemory : List ℕ → Bool
@@ -71,35 +74,16 @@ module _ (s : Session) where
   sound-grouped = test-same grouped (sound s) to (λ h. from (rules-of s h))
     where
       to : holds grouped → holds (sound s)
-      to (c, ((o, (r, (m, past))), (u, (l, ((one, t), (st, (b, (co, (la, d))))))))) =
-          sound-from s (record {
-            counts = c;
-            objects = o;
-            roots = r;
-            creators = m;
-            outputs = u;
-            slots = t;
-            links = l;
-            oneLink = one;
-            states = st;
-            blocks = b;
-            compatible = co;
-            latches = la;
-            dropped = d;
-            unused = past;
-          })
+      to h = sound-from s (search)
 
       from : Rules s → holds grouped
-      from r = (
-        r .counts,
-        (
-          (r .objects, (r .roots, (r .creators, r .unused))),
-          (r .outputs, (r .links, ((r .oneLink, r .slots), used))),
-        ),
-      )
-        where
-          used : holds uses
-          used = (r .states, (r .blocks, (r .compatible, (r .latches, r .dropped))))
+      from r =
+          r .counts & (r .objects & r .roots & r .creators & r .unused) & r .outputs & r .links & (r .oneLink & r .slots)
+          & r .states & r .blocks & r .compatible & r .latches & r .dropped
+
+  -- what the rules about objects by themselves say of creators
+  pub parts-fall : s Objects 0 ≤ mostObjects → holds parts → Falls s
+  parts-fall few (o, (r, (m, u))) = creators-fall s few (taskParts-of s o u) r m
 
   -- what a slot that is held is
   pub record IsHeld (i : ℕ) : Type 0 where
@@ -136,9 +120,9 @@ module _ (s : Session) where
       low (inr x) = let q = x .0 .1 in omega arith
 
       in-task : s Kind t ≡ task → holds (unclaimed s t j or claimed s t j) → IsHeld (at t j)
-      in-task k (inl x) = let z : s SlotMark (at t j) ≡ 0 = x .1 .0 in absurd (omega (arith, mark))
-      in-task k (inr x) = record { block = low (x .1 .1 .1 .0); mode = mode; task-low = owner k }
+      in-task k (inl x) = let z = unclaimed-by-name s t j x .no-mark in absurd (omega (arith, mark))
+      in-task k (inr x) = record { block = low (claimed-by-name t j s x payload); mode = mode; task-low = owner k }
 
       go : holds (slot s t j) → IsHeld (at t j)
       go (inl x) = in-task (x .0) (x .1 .1)
-      go (inr x) = let z : s SlotMark (at t j) ≡ 0 = x .1 .1 .0 in absurd (omega (arith, mark))
+      go (inr (past, (no-mode, (no-mark, no-payload)))) = absurd (omega (arith, mark))

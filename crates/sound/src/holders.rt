@@ -3,10 +3,11 @@ ghost use mathlib.Core.Path.{_≡_};
 ghost use Prim.Native.Nat.{ℕ, _+_, _*_, _<_, _≤_};
 ghost use lib.ListN.{length, getD};
 ghost use Rattle.session.specs.Table.{read, words};
+ghost use Rattle.session.specs.Lent.{was};
 ghost use Rattle.session.specs.declared.Field.the-variants.{SlotMark};
 ghost use Rattle.session.specs.Names.{held, mostObjects, objectPlaces, slotPlaces};
 ghost use Rattle.rules.specs.Formula.{test, Formula.each};
-ghost use Rattle.sound.specs.Bodies.{clashMade, compatibleAt};
+ghost use Rattle.rules.specs.Sound.{clashMade, compatibleAt};
 ghost use Rattle.sound.specs.Row.{Row};
 ghost use Rattle.sound.specs.HolderTable.{Holders, joined, isOther, cell, cells, clashes};
 ghost use Rattle.sound.specs.RulesInOrder.{IsHeld};
@@ -22,7 +23,7 @@ const CELLS: usize = names::OBJECT_PLACES * 4;
 // The hold of slot i conflicts with the hold of the task that made its block.
 fn clashes_with_maker(s: &[u64], i: u64) -> bool
     requires { ⌜ words ≤ length (now s) ⌝ }
-    ensures { λ r. ⌜ r ≡ test (clashMade (read (now (s .entry))) i) ⌝ }
+    ensures { λ r. ⌜ r ≡ test (clashMade (was s) i) ⌝ }
 {
     let block = of_slot(s, Field::SlotPayload, i);
     let mode = of_slot(s, Field::SlotMode, i);
@@ -56,7 +57,7 @@ fn is_other(row: &[u64; CELLS], b: u64, c: u64, t: u64) -> bool
 // Whether the hold of slot i conflicts with that of an earlier slot.
 fn does_clash(s: &[u64], row: &[u64; CELLS], i: u64) -> bool
     requires { ⌜ (words ≤ length (now s)) × (i < slotPlaces) × IsHeld (read (now s)) i × Holders (read (now s)) (now row) i ⌝ }
-    ensures { λ r. ⌜ r ≡ test (clashes (read (now (s .entry))) i) ⌝ }
+    ensures { λ r. ⌜ r ≡ test (clashes (was s) i) ⌝ }
 {
     let b = of_slot(s, Field::SlotPayload, i);
     let mode = of_slot(s, Field::SlotMode, i);
@@ -70,7 +71,7 @@ fn does_clash(s: &[u64], row: &[u64; CELLS], i: u64) -> bool
 fn is_compatible(s: &[u64], row: &[u64; CELLS], i: u64) -> bool
     requires { ⌜ (words ≤ length (now s)) × (i < slotPlaces) × (read (now s) SlotMark i ≡ held → IsHeld (read (now s)) i)
         × Holders (read (now s)) (now row) i ⌝ }
-    ensures { λ r. ⌜ r ≡ test (compatibleAt (read (now (s .entry))) i) ⌝ }
+    ensures { λ r. ⌜ r ≡ test (compatibleAt (was s) i) ⌝ }
 {
     if of_slot(s, Field::SlotMark, i) != names::HELD {
         return true;
@@ -82,7 +83,7 @@ fn is_compatible(s: &[u64], row: &[u64; CELLS], i: u64) -> bool
 fn note_held(s: &[u64], row: &mut [u64; CELLS], i: u64)
     requires { ⌜ (words ≤ length (now s)) × (i < slotPlaces) × (read (now s) SlotMark i ≡ held) × IsHeld (read (now s)) i
         × Holders (read (now s)) (now row) i ⌝ }
-    ensures { λ r. ⌜ Holders (read (now (s .entry))) (now (row .exit)) (i + 1) ⌝ }
+    ensures { λ r. ⌜ Holders (was s) (now (row .exit)) (i + 1) ⌝ }
 {
     let b = of_slot(s, Field::SlotPayload, i);
     let mode = of_slot(s, Field::SlotMode, i);
@@ -93,7 +94,7 @@ fn note_held(s: &[u64], row: &mut [u64; CELLS], i: u64)
 fn note_holder(s: &[u64], row: &mut [u64; CELLS], i: u64)
     requires { ⌜ (words ≤ length (now s)) × (i < slotPlaces) × (read (now s) SlotMark i ≡ held → IsHeld (read (now s)) i)
         × Holders (read (now s)) (now row) i ⌝ }
-    ensures { λ r. ⌜ Holders (read (now (s .entry))) (now (row .exit)) (i + 1) ⌝ }
+    ensures { λ r. ⌜ Holders (was s) (now (row .exit)) (i + 1) ⌝ }
 {
     if of_slot(s, Field::SlotMark, i) == names::HELD {
         note_held(s, row, i);
@@ -104,7 +105,7 @@ fn are_compatible_by(s: &[u64], row: &mut [u64; CELLS], n: u64) -> bool
     requires { ⌜ (words ≤ length (now s)) × (n ≤ mostObjects)
         × ((i : ℕ) → i < 16 * (n + 1) → read (now s) SlotMark i ≡ held → IsHeld (read (now s)) i)
         × Row (now row) cells (λ p. 0) ⌝ }
-    ensures { λ r. ⌜ r ≡ test (each (16 * (n + 1)) (compatibleAt (read (now (s .entry))))) ⌝ }
+    ensures { λ r. ⌜ r ≡ test (each (16 * (n + 1)) (compatibleAt (was s))) ⌝ }
 {
     let end = 16 * (n + 1);
     let mut ok = true;
@@ -121,7 +122,7 @@ fn are_compatible_by(s: &[u64], row: &mut [u64; CELLS], n: u64) -> bool
 pub fn are_compatible(s: &[u64], n: u64) -> bool
     requires { ⌜ (words ≤ length (now s)) × (n ≤ mostObjects)
         × ((i : ℕ) → i < 16 * (n + 1) → read (now s) SlotMark i ≡ held → IsHeld (read (now s)) i) ⌝ }
-    ensures { λ r. ⌜ r ≡ test (each (16 * (n + 1)) (compatibleAt (read (now (s .entry))))) ⌝ }
+    ensures { λ r. ⌜ r ≡ test (each (16 * (n + 1)) (compatibleAt (was s))) ⌝ }
 {
     let mut row: [u64; CELLS] = [0; CELLS];
     are_compatible_by(s, &mut row, n)

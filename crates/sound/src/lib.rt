@@ -5,6 +5,7 @@ ghost use Prim.Native.Nat.{_≤_};
 ghost use lib.ListN.{length};
 ghost use Rattle.session.specs.Names.{mostObjects};
 ghost use Rattle.session.specs.Table.{read, words};
+ghost use Rattle.session.specs.Lent.{was};
 ghost use Rattle.session.specs.declared.Field.the-variants.{Objects};
 ghost use Rattle.rules.specs.Formula.{test};
 ghost use Rattle.rules.specs.Sound.{sound, links, slots};
@@ -25,7 +26,7 @@ mod unused;
 // The rules about objects by themselves, and that unused parts are zero. Internal: callers have shown the counts.
 fn are_parts(s: &[u64], n: u64) -> bool
     requires { ⌜ (words ≤ length (now s)) × (n ≤ mostObjects) × (n ≡ read (now s) Objects 0) ⌝ }
-    ensures { λ r. ⌜ r ≡ test (parts (read (now (s .entry)))) ⌝ }
+    ensures { λ r. ⌜ r ≡ test (parts (was s)) ⌝ }
 {
     let null = reading::of_object(s, Field::Kind, 0) == 0;
     let rest = tasks::are_creators(s, n) & unused::is_rest_unused(s);
@@ -35,7 +36,7 @@ fn are_parts(s: &[u64], n: u64) -> bool
 // Each slot of a task has at most one link, and is as its link wants. Internal, as `are_uses` is.
 fn are_linked_up(s: &[u64], n: u64, m: u64) -> bool
     requires { ⌜ (words ≤ length (now s)) × Counted (read (now s)) n m × Linked (read (now s)) ⌝ }
-    ensures { λ r. ⌜ r ≡ test (linkedUp (read (now (s .entry)))) ⌝ }
+    ensures { λ r. ⌜ r ≡ test (linkedUp (was s)) ⌝ }
 {
     let mut row: [u16; names::SLOT_PLACES] = [0; names::SLOT_PLACES];
     slots::note_links(s, &mut row, m);
@@ -48,7 +49,7 @@ fn are_linked_up(s: &[u64], n: u64, m: u64) -> bool
 // The rules about what uses the slots. Internal: callers have shown the counts and the rules before.
 fn are_uses(s: &[u64], n: u64, m: u64) -> bool
     requires { ⌜ (words ≤ length (now s)) × Counted (read (now s)) n m × Known (parts (read (now s))) × Known (slots (read (now s))) ⌝ }
-    ensures { λ r. ⌜ r ≡ test (uses (read (now (s .entry)))) ⌝ }
+    ensures { λ r. ⌜ r ≡ test (uses (was s)) ⌝ }
 {
     let row = blocks::held_marks(s, n);
     let delivered = links::count_delivered(s, m);
@@ -59,7 +60,7 @@ fn are_uses(s: &[u64], n: u64, m: u64) -> bool
 
 fn are_slots_and_uses(s: &[u64], n: u64, m: u64) -> bool
     requires { ⌜ (words ≤ length (now s)) × Counted (read (now s)) n m × Known (parts (read (now s))) × Known (links (read (now s))) ⌝ }
-    ensures { λ r. ⌜ r ≡ test (fromSlots (read (now (s .entry)))) ⌝ }
+    ensures { λ r. ⌜ r ≡ test (fromSlots (was s)) ⌝ }
 {
     if are_linked_up(s, n, m) {
         return are_uses(s, n, m);
@@ -69,7 +70,7 @@ fn are_slots_and_uses(s: &[u64], n: u64, m: u64) -> bool
 
 fn are_links_and_rest(s: &[u64], n: u64, m: u64) -> bool
     requires { ⌜ (words ≤ length (now s)) × Counted (read (now s)) n m × Known (parts (read (now s))) ⌝ }
-    ensures { λ r. ⌜ r ≡ test (fromLinks (read (now (s .entry)))) ⌝ }
+    ensures { λ r. ⌜ r ≡ test (fromLinks (was s)) ⌝ }
 {
     if links::are_links(s, m) {
         return are_slots_and_uses(s, n, m);
@@ -79,7 +80,7 @@ fn are_links_and_rest(s: &[u64], n: u64, m: u64) -> bool
 
 fn are_outputs_and_rest(s: &[u64], n: u64, m: u64) -> bool
     requires { ⌜ (words ≤ length (now s)) × Counted (read (now s)) n m × Known (parts (read (now s))) ⌝ }
-    ensures { λ r. ⌜ r ≡ test (fromOutputs (read (now (s .entry)))) ⌝ }
+    ensures { λ r. ⌜ r ≡ test (fromOutputs (was s)) ⌝ }
 {
     let marks = ancestors::busy_marks(s);
     if tasks::are_outputs(s, &marks, n) {
@@ -90,7 +91,7 @@ fn are_outputs_and_rest(s: &[u64], n: u64, m: u64) -> bool
 
 fn are_parts_and_rest(s: &[u64], n: u64, m: u64) -> bool
     requires { ⌜ (words ≤ length (now s)) × Counted (read (now s)) n m ⌝ }
-    ensures { λ r. ⌜ r ≡ test (fromParts (read (now (s .entry)))) ⌝ }
+    ensures { λ r. ⌜ r ≡ test (fromParts (was s)) ⌝ }
 {
     if are_parts(s, n) {
         return are_outputs_and_rest(s, n, m);
@@ -101,7 +102,7 @@ fn are_parts_and_rest(s: &[u64], n: u64, m: u64) -> bool
 // Whether memory that is long enough holds a sound session. Internal: callers have shown the length.
 fn is_sound_session(s: &[u64]) -> bool
     requires { ⌜ words ≤ length (now s) ⌝ }
-    ensures { λ r. ⌜ r ≡ test (sound (read (now (s .entry)))) ⌝ }
+    ensures { λ r. ⌜ r ≡ test (sound (was s)) ⌝ }
 {
     if objects::are_counts(s) {
         let n = session::get(s, Field::Objects, 0);

@@ -3,10 +3,10 @@ ghost use mathlib.Core.Path.{_≡_};
 ghost use Prim.Native.Nat.{_+_, _≤_};
 ghost use lib.ListN.{length};
 ghost use Rattle.session.specs.Names.{mostLinks};
-ghost use Rattle.session.specs.Table.{read, words};
+ghost use Rattle.session.specs.Table.{words};
+ghost use Rattle.session.specs.Lent.{was};
 ghost use Rattle.rules.specs.Formula.{test, count, Formula.each};
-ghost use Rattle.rules.specs.Sound.{isLink};
-ghost use Rattle.sound.specs.Bodies.{linkAt, linkAgrees, isDelivered};
+ghost use Rattle.rules.specs.Sound.{isLink, linkAt, linkAgrees, isDelivered};
 use reading::has_slot;
 use reading::is_made;
 use reading::is_user_event;
@@ -18,7 +18,7 @@ use session::names;
 // A link's state is in range and agrees with its source's.
 fn does_link_agree(s: &[u64], l: u64) -> bool
     requires { ⌜ words ≤ length (now s) ⌝ }
-    ensures { λ r. ⌜ r ≡ test (linkAgrees (read (now (s .entry))) l) ⌝ }
+    ensures { λ r. ⌜ r ≡ test (linkAgrees (was s) l) ⌝ }
 {
     let source = of_link(s, Field::LinkSource, l);
     let state = of_link(s, Field::LinkState, l);
@@ -36,7 +36,7 @@ fn does_link_agree(s: &[u64], l: u64) -> bool
 // A link leads from an event to a slot that there is, and its state agrees with the event's.
 fn is_link(s: &[u64], l: u64) -> bool
     requires { ⌜ words ≤ length (now s) ⌝ }
-    ensures { λ r. ⌜ r ≡ test (isLink (read (now (s .entry))) l) ⌝ }
+    ensures { λ r. ⌜ r ≡ test (isLink (was s) l) ⌝ }
 {
     let source = of_link(s, Field::LinkSource, l);
     let target = of_link(s, Field::LinkTarget, l);
@@ -48,14 +48,14 @@ fn is_link(s: &[u64], l: u64) -> bool
 
 fn is_link_or_null(s: &[u64], l: u64) -> bool
     requires { ⌜ words ≤ length (now s) ⌝ }
-    ensures { λ r. ⌜ r ≡ test (linkAt (read (now (s .entry))) l) ⌝ }
+    ensures { λ r. ⌜ r ≡ test (linkAt (was s) l) ⌝ }
 {
     (l == 0) | is_link(s, l)
 }
 
 pub fn are_links(s: &[u64], n: u64) -> bool
     requires { ⌜ (words ≤ length (now s)) × (n ≤ mostLinks) ⌝ }
-    ensures { λ r. ⌜ r ≡ test (each (n + 1) (linkAt (read (now (s .entry))))) ⌝ }
+    ensures { λ r. ⌜ r ≡ test (each (n + 1) (linkAt (was s))) ⌝ }
 {
     let mut ok = true;
     let mut l: u64 = 0;
@@ -68,7 +68,7 @@ pub fn are_links(s: &[u64], n: u64) -> bool
 
 fn is_delivered(s: &[u64], l: u64) -> bool
     requires { ⌜ words ≤ length (now s) ⌝ }
-    ensures { λ r. ⌜ r ≡ test (isDelivered (read (now (s .entry))) l) ⌝ }
+    ensures { λ r. ⌜ r ≡ test (isDelivered (was s) l) ⌝ }
 {
     of_link(s, Field::LinkState, l) == names::DELIVERED
 }
@@ -76,7 +76,7 @@ fn is_delivered(s: &[u64], l: u64) -> bool
 // How many links are delivered.
 pub fn count_delivered(s: &[u64], n: u64) -> u64
     requires { ⌜ (words ≤ length (now s)) × (n ≤ mostLinks) ⌝ }
-    ensures { λ r. ⌜ r ≡ count (n + 1) (isDelivered (read (now (s .entry)))) ⌝ }
+    ensures { λ r. ⌜ r ≡ count (n + 1) (isDelivered (was s)) ⌝ }
 {
     let mut count: u64 = 0;
     let mut l: u64 = 0;

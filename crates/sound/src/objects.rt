@@ -3,10 +3,10 @@ ghost use mathlib.Core.Path.{_≡_};
 ghost use Prim.Native.Nat.{_+_, _≤_};
 ghost use lib.ListN.{length};
 ghost use Rattle.session.specs.Names.{mostObjects};
-ghost use Rattle.session.specs.Table.{read, words};
+ghost use Rattle.session.specs.Table.{words};
+ghost use Rattle.session.specs.Lent.{was};
 ghost use Rattle.rules.specs.Formula.{test, Formula.each};
-ghost use Rattle.rules.specs.Sound.{counts, templatePart, taskPart, eventPart, blockPart, roots};
-ghost use Rattle.sound.specs.Bodies.{object, latchAt};
+ghost use Rattle.rules.specs.Sound.{counts, templatePart, taskPart, eventPart, blockPart, roots, object, latchAt};
 use crate::places::is_payload;
 use reading::is_made;
 use reading::of_object;
@@ -17,7 +17,7 @@ use session::names;
 
 pub fn are_counts(s: &[u64]) -> bool
     requires { ⌜ words ≤ length (now s) ⌝ }
-    ensures { λ r. ⌜ r ≡ test (counts (read (now (s .entry)))) ⌝ }
+    ensures { λ r. ⌜ r ≡ test (counts (was s)) ⌝ }
 {
     let objects = session::get(s, Field::Objects, 0);
     let links = session::get(s, Field::Links, 0);
@@ -26,7 +26,7 @@ pub fn are_counts(s: &[u64]) -> bool
 
 pub fn template_part(s: &[u64], h: u64) -> bool
     requires { ⌜ words ≤ length (now s) ⌝ }
-    ensures { λ r. ⌜ r ≡ test (templatePart (read (now (s .entry))) h) ⌝ }
+    ensures { λ r. ⌜ r ≡ test (templatePart (was s) h) ⌝ }
 {
     let state = of_object(s, Field::TemplateState, h);
     let count = of_object(s, Field::TemplateCount, h);
@@ -37,7 +37,7 @@ pub fn template_part(s: &[u64], h: u64) -> bool
 
 pub fn task_part(s: &[u64], h: u64) -> bool
     requires { ⌜ words ≤ length (now s) ⌝ }
-    ensures { λ r. ⌜ r ≡ test (taskPart (read (now (s .entry))) h) ⌝ }
+    ensures { λ r. ⌜ r ≡ test (taskPart (was s) h) ⌝ }
 {
     let state = of_object(s, Field::TaskState, h);
     let creator = of_object(s, Field::TaskCreator, h);
@@ -54,7 +54,7 @@ pub fn task_part(s: &[u64], h: u64) -> bool
 
 pub fn event_part(s: &[u64], h: u64) -> bool
     requires { ⌜ words ≤ length (now s) ⌝ }
-    ensures { λ r. ⌜ r ≡ test (eventPart (read (now (s .entry))) h) ⌝ }
+    ensures { λ r. ⌜ r ≡ test (eventPart (was s) h) ⌝ }
 {
     let state = of_object(s, Field::EventState, h);
     let kind = of_object(s, Field::EventType, h);
@@ -70,7 +70,7 @@ pub fn event_part(s: &[u64], h: u64) -> bool
 
 pub fn block_part(s: &[u64], h: u64) -> bool
     requires { ⌜ words ≤ length (now s) ⌝ }
-    ensures { λ r. ⌜ r ≡ test (blockPart (read (now (s .entry))) h) ⌝ }
+    ensures { λ r. ⌜ r ≡ test (blockPart (was s) h) ⌝ }
 {
     let state = of_object(s, Field::BlockState, h);
     let creator = of_object(s, Field::BlockCreator, h);
@@ -84,7 +84,7 @@ pub fn block_part(s: &[u64], h: u64) -> bool
 
 fn is_object(s: &[u64], h: u64) -> bool
     requires { ⌜ words ≤ length (now s) ⌝ }
-    ensures { λ r. ⌜ r ≡ test (object (read (now (s .entry))) h) ⌝ }
+    ensures { λ r. ⌜ r ≡ test (object (was s) h) ⌝ }
 {
     let kind = of_object(s, Field::Kind, h);
     let of_kind = !(1 <= h) | (1 <= kind) & (kind <= 4);
@@ -94,7 +94,7 @@ fn is_object(s: &[u64], h: u64) -> bool
 // Every object is of some kind, with that kind's fields in range and the others zero.
 pub fn are_objects(s: &[u64], n: u64) -> bool
     requires { ⌜ (words ≤ length (now s)) × (n ≤ mostObjects) ⌝ }
-    ensures { λ r. ⌜ r ≡ test (each (n + 1) (object (read (now (s .entry))))) ⌝ }
+    ensures { λ r. ⌜ r ≡ test (each (n + 1) (object (was s))) ⌝ }
 {
     let mut ok = true;
     let mut h: u64 = 0;
@@ -107,7 +107,7 @@ pub fn are_objects(s: &[u64], n: u64) -> bool
 
 pub fn are_roots(s: &[u64]) -> bool
     requires { ⌜ words ≤ length (now s) ⌝ }
-    ensures { λ r. ⌜ r ≡ test (roots (read (now (s .entry)))) ⌝ }
+    ensures { λ r. ⌜ r ≡ test (roots (was s)) ⌝ }
 {
     let slot = (of_slot(s, Field::SlotMode, 32) == names::RW)
         & ((1 <= of_slot(s, Field::SlotMark, 32)) & (of_slot(s, Field::SlotPayload, 32) == 1));
@@ -122,7 +122,7 @@ pub fn are_roots(s: &[u64]) -> bool
 
 fn is_latch(s: &[u64], e: u64) -> bool
     requires { ⌜ words ≤ length (now s) ⌝ }
-    ensures { λ r. ⌜ r ≡ test (latchAt (read (now (s .entry))) e) ⌝ }
+    ensures { λ r. ⌜ r ≡ test (latchAt (was s) e) ⌝ }
 {
     let state = of_object(s, Field::EventState, e);
     let fired = (state == names::FIRED) | (state == names::DESTROYED_FIRED);
@@ -134,7 +134,7 @@ fn is_latch(s: &[u64], e: u64) -> bool
 // A fired latch has the count 0.
 pub fn are_latches(s: &[u64], n: u64) -> bool
     requires { ⌜ (words ≤ length (now s)) × (n ≤ mostObjects) ⌝ }
-    ensures { λ r. ⌜ r ≡ test (each (n + 1) (latchAt (read (now (s .entry))))) ⌝ }
+    ensures { λ r. ⌜ r ≡ test (each (n + 1) (latchAt (was s))) ⌝ }
 {
     let mut ok = true;
     let mut e: u64 = 0;

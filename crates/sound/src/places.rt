@@ -2,7 +2,8 @@
 ghost use mathlib.Core.Path.{_≡_};
 ghost use Prim.Native.Nat.{_≤_, _-_};
 ghost use lib.ListN.{length};
-ghost use Rattle.session.specs.Table.{read, words};
+ghost use Rattle.session.specs.Table.{words};
+ghost use Rattle.session.specs.Lent.{was};
 ghost use Rattle.rules.specs.Formula.{test};
 ghost use Rattle.rules.specs.Sound.{isPayload};
 use reading::is_made;
@@ -13,7 +14,7 @@ use session::names;
 // Whether a number is 0 or a block.
 pub fn is_payload(s: &[u64], p: u64) -> bool
     requires { ⌜ words ≤ length (now s) ⌝ }
-    ensures { λ r. ⌜ r ≡ test (isPayload (read (now (s .entry))) p) ⌝ }
+    ensures { λ r. ⌜ r ≡ test (isPayload (was s) p) ⌝ }
 {
     (p == 0) | is_made(s, p) & (of_object(s, Field::Kind, p) == names::BLOCK)
 }

@@ -4,6 +4,7 @@ ghost use Prim.Native.Nat.{_+_, _<_, _≤_};
 ghost use lib.ListN.{length};
 ghost use Rattle.session.specs.Names.{mostObjects, mostLinks, slotPlaces};
 ghost use Rattle.session.specs.Table.{read, words};
+ghost use Rattle.session.specs.Lent.{was};
 ghost use Rattle.session.specs.declared.Field.the-variants.{Links, LinkTarget, LinkSlot};
 ghost use Rattle.rules.specs.Formula.{test, Formula.each};
 ghost use Rattle.sound.specs.Row.{Row};
@@ -27,7 +28,7 @@ fn wide(l: u16) -> u64
 fn note_link(s: &[u64], row: &mut [u16; names::SLOT_PLACES], l: u64)
     requires { ⌜ (words ≤ length (now s)) × (1 ≤ l) × (read (now s) LinkTarget l ≤ mostObjects) × (read (now s) LinkSlot l < 16)
         × Row (now row) slotPlaces (lastLink (read (now s)) l) × (l ≤ mostLinks) ⌝ }
-    ensures { λ r. ⌜ Row (now (row .exit)) slotPlaces (lastLink (read (now (s .entry))) (l + 1)) ⌝ }
+    ensures { λ r. ⌜ Row (now (row .exit)) slotPlaces (lastLink (was s) (l + 1)) ⌝ }
 {
     let target = of_link(s, Field::LinkTarget, l);
     let slot = of_link(s, Field::LinkSlot, l);
@@ -41,7 +42,7 @@ fn note_link(s: &[u64], row: &mut [u16; names::SLOT_PLACES], l: u64)
 pub fn note_links(s: &[u64], row: &mut [u16; names::SLOT_PLACES], n: u64)
     requires { ⌜ (words ≤ length (now s)) × (n ≤ mostLinks) × (n ≡ read (now s) Links 0) × Low (read (now s))
         × Row (now row) slotPlaces (λ p. 0) ⌝ }
-    ensures { λ r. ⌜ Row (now (row .exit)) slotPlaces (lastLink (read (now (s .entry))) (n + 1)) ⌝ }
+    ensures { λ r. ⌜ Row (now (row .exit)) slotPlaces (lastLink (was s) (n + 1)) ⌝ }
 {
     let mut l: u64 = 1;
     while l <= n {
@@ -54,7 +55,7 @@ pub fn note_links(s: &[u64], row: &mut [u16; names::SLOT_PLACES], n: u64)
 fn is_single(s: &[u64], row: &[u16; names::SLOT_PLACES], l: u64) -> bool
     requires { ⌜ (words ≤ length (now s)) × (1 ≤ l) × (read (now s) LinkTarget l ≤ mostObjects) × (read (now s) LinkSlot l < 16)
         × Row (now row) slotPlaces (lastLink (read (now s)) (read (now s) Links 0 + 1)) ⌝ }
-    ensures { λ r. ⌜ r ≡ test (single (read (now (s .entry))) l) ⌝ }
+    ensures { λ r. ⌜ r ≡ test (single (was s) l) ⌝ }
 {
     let target = of_link(s, Field::LinkTarget, l);
     let slot = of_link(s, Field::LinkSlot, l);
@@ -69,7 +70,7 @@ fn is_single(s: &[u64], row: &[u16; names::SLOT_PLACES], l: u64) -> bool
 pub fn are_single(s: &[u64], row: &[u16; names::SLOT_PLACES], n: u64) -> bool
     requires { ⌜ (words ≤ length (now s)) × (n ≤ mostLinks) × (n ≡ read (now s) Links 0) × Low (read (now s))
         × Row (now row) slotPlaces (lastLink (read (now s)) (read (now s) Links 0 + 1)) ⌝ }
-    ensures { λ r. ⌜ r ≡ test (each (n + 1) (single (read (now (s .entry))))) ⌝ }
+    ensures { λ r. ⌜ r ≡ test (each (n + 1) (single (was s))) ⌝ }
 {
     let mut ok = true;
     let mut l: u64 = 1;
@@ -83,7 +84,7 @@ pub fn are_single(s: &[u64], row: &[u16; names::SLOT_PLACES], n: u64) -> bool
 // Slot j of task t, to which link m leads, is unsatisfied exactly if that link is not delivered.
 fn is_linked_by(s: &[u64], m: u64, t: u64, j: u64) -> bool
     requires { ⌜ (words ≤ length (now s)) × (t ≤ mostObjects) × (j < 16) ⌝ }
-    ensures { λ r. ⌜ r ≡ test (linkedBy (read (now (s .entry))) m t j) ⌝ }
+    ensures { λ r. ⌜ r ≡ test (linkedBy (was s) m t j) ⌝ }
 {
     let empty = of_slot(s, Field::SlotMark, t * 16 + j) == 0;
     let waits = (1 <= m) & !(of_link(s, Field::LinkState, m) == names::DELIVERED);
@@ -94,7 +95,7 @@ fn is_linked_by(s: &[u64], m: u64, t: u64, j: u64) -> bool
 // A satisfied slot with a delivered link has that source's payload.
 fn is_paid_by(s: &[u64], m: u64, t: u64, j: u64) -> bool
     requires { ⌜ (words ≤ length (now s)) × (t ≤ mostObjects) × (j < 16) ⌝ }
-    ensures { λ r. ⌜ r ≡ test (paidBy (read (now (s .entry))) m t j) ⌝ }
+    ensures { λ r. ⌜ r ≡ test (paidBy (was s) m t j) ⌝ }
 {
     let payload = of_slot(s, Field::SlotPayload, t * 16 + j);
     let source = of_link(s, Field::LinkSource, m);
@@ -105,7 +106,7 @@ fn is_paid_by(s: &[u64], m: u64, t: u64, j: u64) -> bool
 
 fn is_claimed_by(s: &[u64], m: u64, t: u64, j: u64) -> bool
     requires { ⌜ (words ≤ length (now s)) × (t ≤ mostObjects) × (j < 16) ⌝ }
-    ensures { λ r. ⌜ r ≡ test (claimedBy (read (now (s .entry))) m t j) ⌝ }
+    ensures { λ r. ⌜ r ≡ test (claimedBy (was s) m t j) ⌝ }
 {
     let mode = of_slot(s, Field::SlotMode, t * 16 + j);
     let mark = of_slot(s, Field::SlotMark, t * 16 + j);
@@ -117,7 +118,7 @@ fn is_claimed_by(s: &[u64], m: u64, t: u64, j: u64) -> bool
 
 fn is_unclaimed_by(s: &[u64], m: u64, t: u64, j: u64) -> bool
     requires { ⌜ (words ≤ length (now s)) × (t ≤ mostObjects) × (j < 16) ⌝ }
-    ensures { λ r. ⌜ r ≡ test (unclaimedBy (read (now (s .entry))) m t j) ⌝ }
+    ensures { λ r. ⌜ r ≡ test (unclaimedBy (was s) m t j) ⌝ }
 {
     let mode = of_slot(s, Field::SlotMode, t * 16 + j);
     let mark = of_slot(s, Field::SlotMark, t * 16 + j);
@@ -128,7 +129,7 @@ fn is_unclaimed_by(s: &[u64], m: u64, t: u64, j: u64) -> bool
 // Slot j of object h, to which link m leads, is as it should be.
 fn is_slot_by(s: &[u64], m: u64, h: u64, j: u64) -> bool
     requires { ⌜ (words ≤ length (now s)) × (h ≤ mostObjects) × (j < 16) ⌝ }
-    ensures { λ r. ⌜ r ≡ test (slotBy (read (now (s .entry))) m h j) ⌝ }
+    ensures { λ r. ⌜ r ≡ test (slotBy (was s) m h j) ⌝ }
 {
     let is_task = of_object(s, Field::Kind, h) == names::TASK;
     let n = of_object(s, Field::TaskSlots, h);
@@ -141,7 +142,7 @@ fn is_slot_by(s: &[u64], m: u64, h: u64, j: u64) -> bool
 fn is_slot(s: &[u64], row: &[u16; names::SLOT_PLACES], h: u64, j: u64) -> bool
     requires { ⌜ (words ≤ length (now s)) × (h ≤ mostObjects) × (j < 16)
         × Row (now row) slotPlaces (lastLink (read (now s)) (read (now s) Links 0 + 1)) ⌝ }
-    ensures { λ r. ⌜ r ≡ test (slotAt (read (now (s .entry))) h j) ⌝ }
+    ensures { λ r. ⌜ r ≡ test (slotAt (was s) h j) ⌝ }
 {
     let i = (h * 16 + j) as usize;
     is_slot_by(s, wide(row[i]), h, j)
@@ -150,7 +151,7 @@ fn is_slot(s: &[u64], row: &[u16; names::SLOT_PLACES], h: u64, j: u64) -> bool
 fn are_slots_of(s: &[u64], row: &[u16; names::SLOT_PLACES], h: u64) -> bool
     requires { ⌜ (words ≤ length (now s)) × (h ≤ mostObjects)
         × Row (now row) slotPlaces (lastLink (read (now s)) (read (now s) Links 0 + 1)) ⌝ }
-    ensures { λ r. ⌜ r ≡ test (slotsAt (read (now (s .entry))) h) ⌝ }
+    ensures { λ r. ⌜ r ≡ test (slotsAt (was s) h) ⌝ }
 {
     let mut ok = true;
     let mut j: u64 = 0;
@@ -165,7 +166,7 @@ fn are_slots_of(s: &[u64], row: &[u16; names::SLOT_PLACES], h: u64) -> bool
 pub fn are_slots(s: &[u64], row: &[u16; names::SLOT_PLACES], n: u64) -> bool
     requires { ⌜ (words ≤ length (now s)) × (n ≤ mostObjects)
         × Row (now row) slotPlaces (lastLink (read (now s)) (read (now s) Links 0 + 1)) ⌝ }
-    ensures { λ r. ⌜ r ≡ test (each (n + 1) (slotsAt (read (now (s .entry))))) ⌝ }
+    ensures { λ r. ⌜ r ≡ test (each (n + 1) (slotsAt (was s))) ⌝ }
 {
     let mut ok = true;
     let mut h: u64 = 0;

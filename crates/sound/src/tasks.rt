@@ -4,12 +4,12 @@ ghost use Prim.Native.Nat.{ℕ, _+_, _<_, _≤_};
 ghost use lib.ListN.{length};
 ghost use Rattle.session.specs.Names.{mostObjects};
 ghost use Rattle.session.specs.Table.{read, words};
+ghost use Rattle.session.specs.Lent.{was};
 ghost use Rattle.session.specs.declared.Field.the-variants.{TaskSlots};
 ghost use Rattle.rules.specs.Formula.{test, Formula.each};
-ghost use Rattle.rules.specs.Reading.{busy};
 ghost use Rattle.ancestors.specs.Above.{Shows};
-ghost use Rattle.rules.specs.Sound.{creator, outputOf};
-ghost use Rattle.sound.specs.Bodies.{creatorAt, holding, stateAt, outputAt, outputState};
+ghost use Rattle.rules.specs.Sound.{creator, outputOf, heldSlot, creatorAt, stateAt, outputAt, outputState};
+ghost use Rattle.rules.specs.Descendants.{busy};
 use crate::places::previous;
 use reading::is_full;
 use reading::is_made;
@@ -20,7 +20,7 @@ use session::names;
 
 fn is_creator(s: &[u64], t: u64) -> bool
     requires { ⌜ words ≤ length (now s) ⌝ }
-    ensures { λ r. ⌜ r ≡ test (creator (read (now (s .entry))) t) ⌝ }
+    ensures { λ r. ⌜ r ≡ test (creator (was s) t) ⌝ }
 {
     let creator = of_object(s, Field::TaskCreator, t);
     let state = of_object(s, Field::TaskState, creator);
@@ -31,7 +31,7 @@ fn is_creator(s: &[u64], t: u64) -> bool
 
 fn has_creator(s: &[u64], h: u64) -> bool
     requires { ⌜ words ≤ length (now s) ⌝ }
-    ensures { λ r. ⌜ r ≡ test (creatorAt (read (now (s .entry))) h) ⌝ }
+    ensures { λ r. ⌜ r ≡ test (creatorAt (was s) h) ⌝ }
 {
     !(of_object(s, Field::Kind, h) == names::TASK) | is_creator(s, h)
 }
@@ -39,7 +39,7 @@ fn has_creator(s: &[u64], h: u64) -> bool
 // Every task but main has a creator, a lower task that is running or ended.
 pub fn are_creators(s: &[u64], n: u64) -> bool
     requires { ⌜ (words ≤ length (now s)) × (n ≤ mostObjects) ⌝ }
-    ensures { λ r. ⌜ r ≡ test (each (n + 1) (creatorAt (read (now (s .entry))))) ⌝ }
+    ensures { λ r. ⌜ r ≡ test (each (n + 1) (creatorAt (was s))) ⌝ }
 {
     let mut ok = true;
     let mut h: u64 = 0;
@@ -53,7 +53,7 @@ pub fn are_creators(s: &[u64], n: u64) -> bool
 // A slot is held only by a granted or running task, and by a granted one if it has a block.
 fn is_holding(s: &[u64], t: u64, j: u64) -> bool
     requires { ⌜ (words ≤ length (now s)) × (t ≤ mostObjects) × (j ≤ 16) ⌝ }
-    ensures { λ r. ⌜ r ≡ test (holding (read (now (s .entry))) t j) ⌝ }
+    ensures { λ r. ⌜ r ≡ test (heldSlot (was s) t j) ⌝ }
 {
     let state = of_object(s, Field::TaskState, t);
     let mark = of_slot(s, Field::SlotMark, t * 16 + j);
@@ -66,7 +66,7 @@ fn is_holding(s: &[u64], t: u64, j: u64) -> bool
 
 fn are_holding(s: &[u64], t: u64, n: u64) -> bool
     requires { ⌜ (words ≤ length (now s)) × (t ≤ mostObjects) × (n ≤ 16) ⌝ }
-    ensures { λ r. ⌜ r ≡ test (each n (holding (read (now (s .entry))) t)) ⌝ }
+    ensures { λ r. ⌜ r ≡ test (each n (heldSlot (was s) t)) ⌝ }
 {
     let mut ok = true;
     let mut j: u64 = 0;
@@ -80,7 +80,7 @@ fn are_holding(s: &[u64], t: u64, n: u64) -> bool
 // A task's state agrees with its slots.
 fn is_state(s: &[u64], t: u64) -> bool
     requires { ⌜ (words ≤ length (now s)) × (t ≤ mostObjects) × (read (now s) TaskSlots t ≤ 16) ⌝ }
-    ensures { λ r. ⌜ r ≡ test (stateAt (read (now (s .entry))) t) ⌝ }
+    ensures { λ r. ⌜ r ≡ test (stateAt (was s) t) ⌝ }
 {
     let n = of_object(s, Field::TaskSlots, t);
     let state = of_object(s, Field::TaskState, t);
@@ -92,7 +92,7 @@ fn is_state(s: &[u64], t: u64) -> bool
 
 pub fn are_states(s: &[u64], n: u64) -> bool
     requires { ⌜ (words ≤ length (now s)) × (n ≤ mostObjects) × ((h : ℕ) → h < n + 1 → read (now s) TaskSlots h ≤ 16) ⌝ }
-    ensures { λ r. ⌜ r ≡ test (each (n + 1) (stateAt (read (now (s .entry))))) ⌝ }
+    ensures { λ r. ⌜ r ≡ test (each (n + 1) (stateAt (was s))) ⌝ }
 {
     let mut ok = true;
     let mut t: u64 = 0;
@@ -106,7 +106,7 @@ pub fn are_states(s: &[u64], n: u64) -> bool
 // Whether some descendant of a task is live, by the marks.
 fn is_busy(s: &[u64], marks: &[u64; names::OBJECT_PLACES], t: u64) -> bool
     requires { ⌜ (words ≤ length (now s)) × (t ≤ mostObjects) × Shows (now marks) (busy (read (now s))) ⌝ }
-    ensures { λ r. ⌜ r ≡ test (busy (read (now (s .entry))) t) ⌝ }
+    ensures { λ r. ⌜ r ≡ test (busy (was s) t) ⌝ }
 {
     marks[t as usize] == 1
 }
@@ -114,7 +114,7 @@ fn is_busy(s: &[u64], marks: &[u64; names::OBJECT_PLACES], t: u64) -> bool
 // The output event of task t is fired and destroyed as the task's state and its descendants want.
 fn does_output_agree(s: &[u64], marks: &[u64; names::OBJECT_PLACES], t: u64) -> bool
     requires { ⌜ (words ≤ length (now s)) × (t ≤ mostObjects) × Shows (now marks) (busy (read (now s))) ⌝ }
-    ensures { λ r. ⌜ r ≡ test (outputState (read (now (s .entry))) t) ⌝ }
+    ensures { λ r. ⌜ r ≡ test (outputState (was s) t) ⌝ }
 {
     let state = of_object(s, Field::TaskState, t);
     let event = of_object(s, Field::EventState, t + 1);
@@ -130,7 +130,7 @@ fn does_output_agree(s: &[u64], marks: &[u64; names::OBJECT_PLACES], t: u64) -> 
 
 fn is_output_of(s: &[u64], marks: &[u64; names::OBJECT_PLACES], t: u64) -> bool
     requires { ⌜ (words ≤ length (now s)) × (t ≤ mostObjects) × Shows (now marks) (busy (read (now s))) ⌝ }
-    ensures { λ r. ⌜ r ≡ test (outputOf (read (now (s .entry))) t) ⌝ }
+    ensures { λ r. ⌜ r ≡ test (outputOf (was s) t) ⌝ }
 {
     let kind = of_object(s, Field::EventType, t + 1);
     let agrees = (kind == names::OUTPUT) & does_output_agree(s, marks, t);
@@ -139,7 +139,7 @@ fn is_output_of(s: &[u64], marks: &[u64; names::OBJECT_PLACES], t: u64) -> bool
 
 fn has_output(s: &[u64], marks: &[u64; names::OBJECT_PLACES], h: u64) -> bool
     requires { ⌜ (words ≤ length (now s)) × (h ≤ mostObjects) × Shows (now marks) (busy (read (now s))) ⌝ }
-    ensures { λ r. ⌜ r ≡ test (outputAt (read (now (s .entry))) h) ⌝ }
+    ensures { λ r. ⌜ r ≡ test (outputAt (was s) h) ⌝ }
 {
     let kind = of_object(s, Field::Kind, h);
     let b = previous(h);
@@ -153,7 +153,7 @@ fn has_output(s: &[u64], marks: &[u64; names::OBJECT_PLACES], h: u64) -> bool
 // An output event follows its task, and agrees with it.
 pub fn are_outputs(s: &[u64], marks: &[u64; names::OBJECT_PLACES], n: u64) -> bool
     requires { ⌜ (words ≤ length (now s)) × (n ≤ mostObjects) × Shows (now marks) (busy (read (now s))) ⌝ }
-    ensures { λ r. ⌜ r ≡ test (each (n + 1) (outputAt (read (now (s .entry))))) ⌝ }
+    ensures { λ r. ⌜ r ≡ test (each (n + 1) (outputAt (was s))) ⌝ }
 {
     let mut ok = true;
     let mut h: u64 = 0;

@@ -2,7 +2,8 @@
 ghost use mathlib.Core.Path.{_≡_};
 ghost use Prim.Native.Nat.{_≤_};
 ghost use lib.ListN.{length};
-ghost use Rattle.session.specs.Table.{Wrote, read, words};
+ghost use Rattle.session.specs.Table.{read, words};
+ghost use Rattle.session.specs.Lent.{Becomes};
 ghost use Rattle.session.specs.Fresh.{freshSession};
 ghost use Rattle.rules.specs.Formula.{holds};
 ghost use Rattle.rules.specs.Sound.{kept};
@@ -48,7 +49,7 @@ pub fn add(tally: &mut Tally, counts: Tally)
 pub fn run_sheet(sheet: &[u8], memory: &mut [u64], tally: &mut Tally) -> Tally
     requires { ⌜ (words ≤ length (now memory)) × holds (kept (read (now memory))) ⌝ }
     ensures answer { λ r. ⌜ r ≡ countsOf (now (sheet .entry)) ⌝ }
-    ensures memory { λ r. ⌜ Wrote (now (memory .entry)) (now (memory .exit)) (printSheet (now (sheet .entry)) freshSession .session) ⌝ }
+    ensures memory { λ r. ⌜ Becomes memory (printSheet (now (sheet .entry)) freshSession .session) ⌝ }
     ensures tally { λ r. ⌜ now (tally .exit) ≡ raise (now (tally .entry)) (countsOf (now (sheet .entry))) ⌝ }
 {
     let counts = count_sheet(sheet, memory);
@@ -66,7 +67,7 @@ pub struct Ran {
 pub fn run_with(sheet: &[u8], memory: &mut [u64], tally: Tally) -> Ran
     requires { ⌜ (words ≤ length (now memory)) × holds (kept (read (now memory))) ⌝ }
     ensures answer { λ r. ⌜ r .counts ≡ countsOf (now (sheet .entry)) ⌝ }
-    ensures memory { λ r. ⌜ Wrote (now (memory .entry)) (now (memory .exit)) (printSheet (now (sheet .entry)) freshSession .session) ⌝ }
+    ensures memory { λ r. ⌜ Becomes memory (printSheet (now (sheet .entry)) freshSession .session) ⌝ }
     ensures tally { λ r. ⌜ r .tally ≡ raise tally (countsOf (now (sheet .entry))) ⌝ }
 {
     let mut mine = tally;

@@ -14,10 +14,16 @@ use Rattle.checks.proofs.deliver_refusal.Tie as tie
 abbrev asked : tie.Start → List Check
 asked c = deliverChecks (read (c .args .s .now)) (c .args .l)
 
-past-9 : (c : tie.Else2) → Left (asked (c .before .before .before .before)) 1
+abbrev asked-9 : tie.Else2 → List Check
+asked-9 c = asked (c .before .before .before .before)
+
+past-9 : (c : tie.Else2) → Left (asked-9 c) 9
 past-9 c = skip _ _ _ (omega arith, omega arith)
 
-past-16 : (c : tie.Else3) → Left (asked (c .before .before .before .before .before .before)) 2
+abbrev asked-16 : tie.Else3 → List Check
+asked-16 c = asked-9 (c .before .before)
+
+past-16 : (c : tie.Else3) → Left (asked-16 c) 16
 past-16 c = past-9 (c .before .before) ∙ skip _ _ _ (sym (c .before .of-link .ensures) ∙ c .if3 .left)
 
 returns : tie.Need-returns

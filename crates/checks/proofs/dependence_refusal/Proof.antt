@@ -15,13 +15,22 @@ use Rattle.checks.proofs.dependence_refusal.Tie as tie
 abbrev asked : tie.Start → List Check
 asked c = dependenceChecks (read (c .args .s .now)) (c .args .caller) (c .args .source) (c .args .d) (c .args .j) (c .args .mode)
 
-past-7 : (c : tie.Else2) → Left (asked (c .before .before .before)) 1
+abbrev asked-7 : tie.Else2 → List Check
+asked-7 c = asked (c .before .before .before)
+
+past-7 : (c : tie.Else2) → Left (asked-7 c) 7
 past-7 c = skip _ _ _ (c .before .if1 .left, c .if2 .left)
 
-past-8 : (c : tie.Else3) → Left (asked (c .before .before .before .before .before)) 2
+abbrev asked-8 : tie.Else3 → List Check
+asked-8 c = asked-7 (c .before .before)
+
+past-8 : (c : tie.Else3) → Left (asked-8 c) 8
 past-8 c = past-7 (c .before .before) ∙ skip _ _ _ (yes-not _ (c .before .is-running .ensures) (c .if3 .left))
 
-past-9 : (c : tie.Else5) → Left (asked (c .before .before .before .before .before .before .before .before .before)) 3
+abbrev asked-9 : tie.Else5 → List Check
+asked-9 c = asked-8 (c .before .before .before .before)
+
+past-9 : (c : tie.Else5) → Left (asked-9 c) 9
 past-9 c =
     past-8 (c .before .before .before .before) ∙
     skip _ _ _ (
@@ -30,8 +39,10 @@ past-9 c =
           (c .before .is-made .ensures) (c .if5 .left),
     )
 
-past-10 : (c : tie.Else7)
-    → Left (asked (c .before .before .before .before .before .before .before .before .before .before .before .before .before)) 4
+abbrev asked-10 : tie.Else7 → List Check
+asked-10 c = asked-9 (c .before .before .before .before)
+
+past-10 : (c : tie.Else7) → Left (asked-10 c) 10
 past-10 c =
     past-9 (c .before .before .before .before) ∙
     skip _ _ _ (
@@ -40,8 +51,10 @@ past-10 c =
           (c .before .is-destination .ensures) (c .if7 .left),
     )
 
-past-11 : (c : tie.Else9)
-    → Left (asked (c .before .before .before .before .before .before .before .before .before .before .before .before .before .before .before .before .before)) 5
+abbrev asked-11 : tie.Else9 → List Check
+asked-11 c = asked-10 (c .before .before .before .before)
+
+past-11 : (c : tie.Else9) → Left (asked-11 c) 11
 past-11 c =
     past-10 (c .before .before .before .before) ∙
     skip _ _ _ (
@@ -50,12 +63,16 @@ past-11 c =
           (c .before .is-gone .ensures) (c .if9 .left),
     )
 
-past-12 : (c : tie.Else10)
-    → Left (asked (c .before .before .before .before .before .before .before .before .before .before .before .before .before .before .before .before .before .before .before)) 6
+abbrev asked-12 : tie.Else10 → List Check
+asked-12 c = asked-11 (c .before .before)
+
+past-12 : (c : tie.Else10) → Left (asked-12 c) 12
 past-12 c = past-11 (c .before .before) ∙ skip _ _ _ (yes-not _ (c .before .has-slot .ensures) (c .if10 .left))
 
-past-13 : (c : tie.Else11)
-    → Left (asked (c .before .before .before .before .before .before .before .before .before .before .before .before .before .before .before .before .before .before .before .before .before)) 7
+abbrev asked-13 : tie.Else11 → List Check
+asked-13 c = asked-12 (c .before .before)
+
+past-13 : (c : tie.Else11) → Left (asked-13 c) 13
 past-13 c = past-12 (c .before .before) ∙ skip _ _ _ (yes-not _ (c .before .is-unclaimed .ensures) (c .if11 .left))
 
 returns : tie.Need-returns

@@ -16,26 +16,42 @@ use Rattle.checks.proofs.grant_refusal.Tie as tie
 abbrev asked : tie.Start → List Check
 asked c = grantChecks (read (c .args .s .now)) (c .args .t)
 
-past-9 : (c : tie.Else1) → Left (asked (c .before .before .before)) 1
+abbrev asked-9 : tie.Else1 → List Check
+asked-9 c = asked (c .before .before .before)
+
+past-9 : (c : tie.Else1) → Left (asked-9 c) 9
 past-9 c = skip _ _ _ (yes-not _ (c .before .is-made .ensures) (c .if1 .left))
 
-past-10 : (c : tie.Else2) → Left (asked (c .before .before .before .before .before)) 2
+abbrev asked-10 : tie.Else2 → List Check
+asked-10 c = asked-9 (c .before .before)
+
+past-10 : (c : tie.Else2) → Left (asked-10 c) 10
 past-10 c = past-9 (c .before .before) ∙ skip _ _ _ (yes-not _ (c .before .is-kind .ensures) (c .if2 .left))
 
-past-11 : (c : tie.Else3) → Left (asked (c .before .before .before .before .before .before .before)) 3
+abbrev asked-11 : tie.Else3 → List Check
+asked-11 c = asked-10 (c .before .before)
+
+past-11 : (c : tie.Else3) → Left (asked-11 c) 11
 past-11 c = past-10 (c .before .before) ∙ skip _ _ _ (no _ (c .before .is-gone .ensures) (c .if3 .left))
 
-past-16 : (c : tie.Else4) → Left (asked (c .before .before .before .before .before .before .before .before .before)) 4
+abbrev asked-16 : tie.Else4 → List Check
+asked-16 c = asked-11 (c .before .before)
+
+past-16 : (c : tie.Else4) → Left (asked-16 c) 16
 past-16 c = past-11 (c .before .before) ∙ skip _ _ _ (sym (c .before .of-object .ensures) ∙ c .if4 .left)
 
-past-17 : (c : tie.Else5)
-    → Left (asked (c .before .before .before .before .before .before .before .before .before .before .before)) 5
+abbrev asked-17 : tie.Else5 → List Check
+asked-17 c = asked-16 (c .before .before)
+
+past-17 : (c : tie.Else5) → Left (asked-17 c) 17
 past-17 c =
     past-16 (c .before .before) ∙
     skip _ _ _ (yes-not _ (c .before .blocks-remain .ensures) (c .if5 .left))
 
-past-18 : (c : tie.Else6)
-    → Left (asked (c .before .before .before .before .before .before .before .before .before .before .before .before .before)) 6
+abbrev asked-18 : tie.Else6 → List Check
+asked-18 c = asked-17 (c .before .before)
+
+past-18 : (c : tie.Else6) → Left (asked-18 c) 18
 past-18 c = past-17 (c .before .before) ∙ skip _ _ _ (yes-not _ (c .before .is-free .ensures) (c .if6 .left))
 
 is-made-requires : tie.Need-is-made-requires

@@ -14,10 +14,16 @@ use Rattle.checks.proofs.satisfy_refusal.Tie as tie
 abbrev asked : tie.Start → List Check
 asked c = satisfyChecks (read (c .args .s .now)) (c .args .caller) (c .args .e) (c .args .b) (c .args .j)
 
-past-8 : (c : tie.Else1) → Left (asked (c .before .before .before)) 1
+abbrev asked-8 : tie.Else1 → List Check
+asked-8 c = asked (c .before .before .before)
+
+past-8 : (c : tie.Else1) → Left (asked-8 c) 8
 past-8 c = skip _ _ _ (yes-not _ (c .before .is-running .ensures) (c .if1 .left))
 
-past-9 : (c : tie.Else3) → Left (asked (c .before .before .before .before .before .before .before)) 2
+abbrev asked-9 : tie.Else3 → List Check
+asked-9 c = asked-8 (c .before .before .before .before)
+
+past-9 : (c : tie.Else3) → Left (asked-9 c) 9
 past-9 c =
     past-8 (c .before .before .before .before) ∙
     skip _ _ _ (
@@ -26,8 +32,10 @@ past-9 c =
           (c .before .is-made-or-null .ensures) (c .if3 .left),
     )
 
-past-10 : (c : tie.Else5)
-    → Left (asked (c .before .before .before .before .before .before .before .before .before .before .before)) 3
+abbrev asked-10 : tie.Else5 → List Check
+asked-10 c = asked-9 (c .before .before .before .before)
+
+past-10 : (c : tie.Else5) → Left (asked-10 c) 10
 past-10 c =
     past-9 (c .before .before .before .before) ∙
     skip _ _ _ (
@@ -36,8 +44,10 @@ past-10 c =
           (c .before .is-block-or-null .ensures) (c .if5 .left),
     )
 
-past-11 : (c : tie.Else7)
-    → Left (asked (c .before .before .before .before .before .before .before .before .before .before .before .before .before .before .before)) 4
+abbrev asked-11 : tie.Else7 → List Check
+asked-11 c = asked-10 (c .before .before .before .before)
+
+past-11 : (c : tie.Else7) → Left (asked-11 c) 11
 past-11 c =
     past-10 (c .before .before .before .before) ∙
     skip _ _ _ (
@@ -46,16 +56,22 @@ past-11 c =
           (c .before .remains-or-null .ensures) (c .if7 .left),
     )
 
-past-12 : (c : tie.Else8)
-    → Left (asked (c .before .before .before .before .before .before .before .before .before .before .before .before .before .before .before .before .before)) 5
+abbrev asked-12 : tie.Else8 → List Check
+asked-12 c = asked-11 (c .before .before)
+
+past-12 : (c : tie.Else8) → Left (asked-12 c) 12
 past-12 c = past-11 (c .before .before) ∙ skip _ _ _ (yes-not _ (c .before .has-slot .ensures) (c .if8 .left))
 
-past-14 : (c : tie.Else9)
-    → Left (asked (c .before .before .before .before .before .before .before .before .before .before .before .before .before .before .before .before .before .before .before)) 6
+abbrev asked-14 : tie.Else9 → List Check
+asked-14 c = asked-12 (c .before .before)
+
+past-14 : (c : tie.Else9) → Left (asked-14 c) 14
 past-14 c = past-12 (c .before .before) ∙ skip _ _ _ (no _ (c .before .is-fired-sticky .ensures) (c .if9 .left))
 
-past-19 : (c : tie.Else10)
-    → Left (asked (c .before .before .before .before .before .before .before .before .before .before .before .before .before .before .before .before .before .before .before .before .before)) 7
+abbrev asked-19 : tie.Else10 → List Check
+asked-19 c = asked-14 (c .before .before)
+
+past-19 : (c : tie.Else10) → Left (asked-19 c) 19
 past-19 c = past-14 (c .before .before) ∙ skip _ _ _ (no _ (c .before .overflows .ensures) (c .if10 .left))
 
 is-running-requires : tie.Need-is-running-requires

@@ -16,28 +16,46 @@ abbrev asked : tie.Start → List Check
 asked c =
     taskChecks (read (c .args .s .now)) (c .args .caller) (c .args .template) (c .args .n) (c .args .finish) (c .args .output)
 
-past-7 : (c : tie.Else3) → Left (asked (c .before .before .before .before)) 1
+abbrev asked-7 : tie.Else3 → List Check
+asked-7 c = asked (c .before .before .before .before)
+
+past-7 : (c : tie.Else3) → Left (asked-7 c) 7
 past-7 c = skip _ _ _ (c .before .before .if1 .left, (c .before .if2 .left, c .if3 .left))
 
-past-8 : (c : tie.Else4) → Left (asked (c .before .before .before .before .before .before)) 2
+abbrev asked-8 : tie.Else4 → List Check
+asked-8 c = asked-7 (c .before .before)
+
+past-8 : (c : tie.Else4) → Left (asked-8 c) 8
 past-8 c = past-7 (c .before .before) ∙ skip _ _ _ (yes-not _ (c .before .is-running .ensures) (c .if4 .left))
 
-past-9 : (c : tie.Else5) → Left (asked (c .before .before .before .before .before .before .before .before)) 3
+abbrev asked-9 : tie.Else5 → List Check
+asked-9 c = asked-8 (c .before .before)
+
+past-9 : (c : tie.Else5) → Left (asked-9 c) 9
 past-9 c = past-8 (c .before .before) ∙ skip _ _ _ (yes-not _ (c .before .is-made .ensures) (c .if5 .left))
 
-past-10 : (c : tie.Else6) → Left (asked (c .before .before .before .before .before .before .before .before .before .before)) 4
+abbrev asked-10 : tie.Else6 → List Check
+asked-10 c = asked-9 (c .before .before)
+
+past-10 : (c : tie.Else6) → Left (asked-10 c) 10
 past-10 c = past-9 (c .before .before) ∙ skip _ _ _ (yes-not _ (c .before .is-kind .ensures) (c .if6 .left))
 
-past-11 : (c : tie.Else7)
-    → Left (asked (c .before .before .before .before .before .before .before .before .before .before .before .before)) 5
+abbrev asked-11 : tie.Else7 → List Check
+asked-11 c = asked-10 (c .before .before)
+
+past-11 : (c : tie.Else7) → Left (asked-11 c) 11
 past-11 c = past-10 (c .before .before) ∙ skip _ _ _ (no _ (c .before .is-gone .ensures) (c .if7 .left))
 
-past-12 : (c : tie.Else8)
-    → Left (asked (c .before .before .before .before .before .before .before .before .before .before .before .before .before .before)) 6
+abbrev asked-12 : tie.Else8 → List Check
+asked-12 c = asked-11 (c .before .before)
+
+past-12 : (c : tie.Else8) → Left (asked-12 c) 12
 past-12 c = past-11 (c .before .before) ∙ skip _ _ _ (yes-not _ (c .before .is-count .ensures) (c .if8 .left))
 
-past-20 : (c : tie.Else9)
-    → Left (asked (c .before .before .before .before .before .before .before .before .before .before .before .before .before .before .before .before)) 7
+abbrev asked-20 : tie.Else9 → List Check
+asked-20 c = asked-12 (c .before .before)
+
+past-20 : (c : tie.Else9) → Left (asked-20 c) 20
 past-20 c = past-12 (c .before .before) ∙ skip _ _ _ (yes-not _ (c .before .has-room .ensures) (c .if9 .left))
 
 returns : tie.Need-returns

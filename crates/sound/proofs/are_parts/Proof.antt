@@ -4,9 +4,8 @@ use mathlib.Core.Path.{sym, _∙_}
 use borrow.Author.Needs.{needs}
 use Rattle.session.specs.declared.Field.the-variants.{Kind, Objects}
 use Rattle.session.specs.Table.{read}
-use Rattle.rules.specs.Sound.{objects, roots, creators, unused}
+use Rattle.rules.specs.Sound.{objects, roots, creators, unused, object}
 use Rattle.rules.specs.Formula.{Formula._≐_, Formula._and_, Formula.each}
-use Rattle.sound.specs.Bodies.{object}
 use Rattle.rules.specs.Bools.{test-both, test-eq}
 use Rattle.sound.proofs.are_parts.Statement.{statement}
 use Rattle.sound.proofs.are_parts.Tie as tie
@@ -30,7 +29,14 @@ returns : tie.Need-returns
 returns c =
     let x = c .before .before .before .before .before .before in
     let s = read (x .args .s .now) in
-    rw (c .are-roots .ensures, c .before .are-objects .ensures, c .before .before .is-rest-unused .ensures, c .before .before .before .are-creators .ensures, c .before .before .before .before .of-object .ensures, x .pre .2)
+    rw (
+      c .are-roots .ensures,
+      c .before .are-objects .ensures,
+      c .before .before .is-rest-unused .ensures,
+      c .before .before .before .are-creators .ensures,
+      c .before .before .before .before .of-object .ensures,
+      x .pre .2,
+    )
     (sym (test-both (objects s) (roots s and creators s and unused s)
     ∙ rw (
       test-both (s Kind 0 ≐ 0) (each (s Objects 0 + 1) (object s)),

@@ -1,16 +1,10 @@
 -- `sound::are_uses` meets its contract: the answers on five rules, joined by `test-both`.
 -- The rules known before bound a task's slots (`part-slots`) and say what a held slot is (`slots-held`).
-use Prim.Native.Nat.{_+_}
-use mathlib.Core.Path.{sym, _∙_}
 use native.Mathlib.Omega.{arith}
 use borrow.Author.Needs.{needs}
-use Rattle.session.specs.declared.Field.the-variants.{Links, Dropped}
 use Rattle.session.specs.Table.{read}
-use Rattle.rules.specs.Sound.{states, blocks, compatible, latches, dropped}
-use Rattle.rules.specs.Formula.{count, Formula._and_}
 use Rattle.laws.specs.Parts.{made-taskPart}
 use Rattle.laws.specs.SlotPlaces.{part-slots}
-use Rattle.sound.specs.Bodies.{isDelivered}
 use Rattle.rules.specs.Bools.{test-both, test-le}
 use Rattle.sound.specs.RulesInOrder.{slots-held}
 use Rattle.sound.proofs.are_uses.Statement.{statement}
@@ -53,18 +47,7 @@ are-compatible-requires c κs =
     )
 
 returns : tie.Need-returns
-returns c =
-    let x = c .before .before .before .before .before .before .before .before .before in
-    let s = read (x .args .s .now) in
-    let q = x .pre .1 in
-    rw (c .are-compatible .ensures, c .before .are-blocks .ensures, c .before .before .before .are-states .ensures, c .before .before .before .before .get .ensures, c .before .before .before .before .before .are-latches .ensures, c .before .before .before .before .before .before .count-delivered .ensures, q .objects, q .links)
-    (sym (test-both (states s) (blocks s and compatible s and latches s and dropped s)
-    ∙ rw (
-      test-both (blocks s) (compatible s and latches s and dropped s),
-      test-both (compatible s) (latches s and dropped s),
-      test-both (latches s) (dropped s),
-      test-le (s Dropped 0) (count (s Links 0 + 1) (isDelivered s)),
-    )))
+returns c = simp (test-both, test-le) (cc)
 
 pub are-uses-spec : {M : Type 1} → statement M
 are-uses-spec =

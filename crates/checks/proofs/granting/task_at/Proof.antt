@@ -68,7 +68,14 @@ returns c =
     let d : l .j ≡ 16 = omega arith in
     let e : l .slots ≡ upTo 16 (λ j. slotAt (read (a .s .now)) (at (a .t) j)) = sym
     (take-all 16 (l .slots) (omega (arith, l .inv .1))) ∙ rw d at (l .inv .2) in
-    rw (g .get .ensures, c .before .before .before .get2 .ensures, c .before .before .get3 .ensures, c .before .get4 .ensures, c .get5 .ensures, e)
+    rw (
+      g .get .ensures,
+      c .before .before .before .get2 .ensures,
+      c .before .before .get3 .ensures,
+      c .before .get4 .ensures,
+      c .get5 .ensures,
+      e,
+    )
 
 pub task-at-spec : {M : Type 1} → statement M
 task-at-spec =

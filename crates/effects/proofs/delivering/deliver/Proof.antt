@@ -110,7 +110,13 @@ returns-2 c =
     let a = at .args in
     let e : test (drops (read (a .s .now)) (read (a .s .now) LinkTarget (a .l)) (read (a .s .now) LinkSlot (a .l))) ≡ false = rw
     (target .ensures, slot .ensures) at (sym (t .drops .ensures) ∙ c .before .before .before .before .if1 .left) in
-    rw (choose-no _ _ _ (failed _ e), ← target .ensures, ← slot .ensures, ← payload .before .before .get3 .ensures, ← payload .get4 .ensures)
+    rw (
+      choose-no _ _ _ (failed _ e),
+      ← target .ensures,
+      ← slot .ensures,
+      ← payload .before .before .get3 .ensures,
+      ← payload .get4 .ensures,
+    )
     (wrote-next (λ r. satisfy r (target .result) (slot .result) (payload .get4 .result))
     (c .before .before .before .before .before .before .before .set .ensures) (c .before .before .satisfy-either .ensures))
 

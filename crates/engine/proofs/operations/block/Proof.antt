@@ -3,6 +3,7 @@ use mathlib.Core.Path.{sym, _∙_}
 use borrow.Author.Needs.{needs}
 use Rattle.session.specs.Table.{read}
 use Rattle.rules.specs.Checks.{blockChecks}
+use Rattle.rules.specs.Step.{blockRule}
 use Rattle.laws.specs.Met.{all-met}
 use Rattle.engine.specs.Played.{played-refused, played-accepted}
 use Rattle.engine.proofs.operations.block.Statement.{statement}
@@ -17,7 +18,7 @@ same-length c = search needs
 returns : tie.Need-returns
 returns c =
     let a = c .before .before .before .before .args in
-    played-refused (a .s .now) _ (blockChecks (read (a .s .now)) (a .caller) (a .hold)) _ _ (c .before .block-refusal .ensures)
+    played-refused blockRule _ (a .s .now) _ (c .before .block-refusal .ensures)
     (c .if1 .taken)
 
 block-requires : tie.Need-block-requires
@@ -38,7 +39,7 @@ returns-2 c =
     let a = c .before .before .before .before .before .before .before .before .args in
     let e = sym (c .before .before .before .before .before .block-refusal .ensures)
     ∙ c .before .before .before .before .if1 .left in
-    played-accepted (a .s .now) _ _ (blockChecks (read (a .s .now)) (a .caller) (a .hold)) _ _ e
+    played-accepted blockRule _ (a .s .now) _ _ e
     (c .before .before .block .ensures .answer) (c .before .before .block .ensures .wrote)
 
 pub block-spec : {M : Type 1} → statement M

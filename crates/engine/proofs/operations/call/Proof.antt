@@ -4,6 +4,7 @@ use mathlib.Core.Path.{_≡_}
 use native.Mathlib.Omega.{arith}
 use borrow.Author.Needs.{needs}
 use Rattle.rules.specs.Step.{rules}
+use Rattle.engine.specs.Played.{replyBy}
 use Rattle.engine.proofs.operations.call.Statement.{statement}
 use Rattle.engine.proofs.operations.call.Tie as tie
 
@@ -66,7 +67,7 @@ same-length : tie.Need-same-length
 same-length c = search needs
 
 returns : tie.Need-returns
-unfolding rules
+unfolding rules replyBy
 returns c =
     rw (c .before .before .before .before .match .keys1) (c .before .before .dependence .ensures)
 
@@ -74,7 +75,7 @@ same-length-2 : tie.Need-same-length-2
 same-length-2 c = search needs
 
 returns-2 : tie.Need-returns-2
-unfolding rules
+unfolding rules replyBy
 returns-2 c =
     rw (c .before .before .before .before .match .keys2) (c .before .before .satisfy .ensures)
 
@@ -82,7 +83,7 @@ same-length-3 : tie.Need-same-length-3
 same-length-3 c = search needs
 
 returns-3 : tie.Need-returns-3
-unfolding rules
+unfolding rules replyBy
 returns-3 c =
     rw (c .before .before .before .before .match .keys3) (c .before .before .release .ensures)
 
@@ -90,7 +91,7 @@ same-length-4 : tie.Need-same-length-4
 same-length-4 c = search needs
 
 returns-4 : tie.Need-returns-4
-unfolding rules
+unfolding rules replyBy
 returns-4 c =
     let r = c .before .before .before .before .match .rest in
     let s = c .before .before .before .before .before .before in

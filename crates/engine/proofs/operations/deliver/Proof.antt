@@ -3,6 +3,7 @@ use mathlib.Core.Path.{refl, sym, _∙_}
 use borrow.Author.Needs.{needs}
 use Rattle.session.specs.Table.{read}
 use Rattle.rules.specs.Checks.{deliverChecks}
+use Rattle.rules.specs.Step.{deliverRule}
 use Rattle.laws.specs.Met.{all-met}
 use Rattle.engine.specs.Played.{played-refused, played-accepted}
 use Rattle.engine.proofs.operations.deliver.Statement.{statement}
@@ -17,7 +18,7 @@ same-length c = search needs
 returns : tie.Need-returns
 returns c =
     let a = c .before .before .before .before .args in
-    played-refused (a .s .now) _ (deliverChecks (read (a .s .now)) (a .l)) _ _ (c .before .deliver-refusal .ensures)
+    played-refused deliverRule _ (a .s .now) _ (c .before .deliver-refusal .ensures)
     (c .if1 .taken)
 
 deliver-requires : tie.Need-deliver-requires
@@ -38,7 +39,7 @@ returns-2 c =
     let a = c .before .before .before .before .before .before .before .before .args in
     let e = sym (c .before .before .before .before .before .deliver-refusal .ensures)
     ∙ c .before .before .before .before .if1 .left in
-    played-accepted (a .s .now) _ _ (deliverChecks (read (a .s .now)) (a .l)) _ _ e refl
+    played-accepted deliverRule _ (a .s .now) _ _ e refl
     (c .before .before .deliver .ensures)
 
 pub deliver-spec : {M : Type 1} → statement M

@@ -3,6 +3,7 @@ use mathlib.Core.Path.{sym, _∙_}
 use borrow.Author.Needs.{needs}
 use Rattle.session.specs.Table.{read}
 use Rattle.rules.specs.Checks.{dependenceChecks}
+use Rattle.rules.specs.Step.{dependenceRule}
 use Rattle.laws.specs.Met.{all-met}
 use Rattle.effects.specs.Made.{linkMade}
 use Rattle.engine.specs.Played.{played-refused, played-accepted}
@@ -18,7 +19,7 @@ same-length c = search needs
 returns : tie.Need-returns
 returns c =
     let a = c .before .before .before .before .args in
-    played-refused (a .s .now) _ (dependenceChecks (read (a .s .now)) (a .caller) (a .source) (a .d) (a .j) (a .mode)) _ _
+    played-refused dependenceRule _ (a .s .now) _
     (c .before .dependence-refusal .ensures) (c .if1 .taken)
 
 dependence-requires : tie.Need-dependence-requires
@@ -40,7 +41,7 @@ returns-2 c =
     let a = c .before .before .before .before .before .before .before .before .args in
     let e = sym (c .before .before .before .before .before .dependence-refusal .ensures)
     ∙ c .before .before .before .before .if1 .left in
-    played-accepted (a .s .now) _ _ (dependenceChecks (read (a .s .now)) (a .caller) (a .source) (a .d) (a .j) (a .mode)) _ _ e
+    played-accepted dependenceRule _ (a .s .now) _ _ e
     (c .before .before .dependence .ensures .answer) (c .before .before .dependence .ensures .wrote)
 
 pub dependence-spec : {M : Type 1} → statement M

@@ -3,6 +3,7 @@ use mathlib.Core.Path.{refl, sym, _∙_}
 use borrow.Author.Needs.{needs}
 use Rattle.session.specs.Table.{read}
 use Rattle.rules.specs.Checks.{destroyChecks}
+use Rattle.rules.specs.Step.{destroyRule}
 use Rattle.laws.specs.Met.{all-met}
 use Rattle.engine.specs.Played.{played-refused, played-accepted}
 use Rattle.engine.proofs.operations.destroy.Statement.{statement}
@@ -17,7 +18,7 @@ same-length c = search needs
 returns : tie.Need-returns
 returns c =
     let a = c .before .before .before .before .args in
-    played-refused (a .s .now) _ (destroyChecks (read (a .s .now)) (a .caller) (a .h)) _ _ (c .before .destroy-refusal .ensures)
+    played-refused destroyRule _ (a .s .now) _ (c .before .destroy-refusal .ensures)
     (c .if1 .taken)
 
 destroy-requires : tie.Need-destroy-requires
@@ -38,7 +39,7 @@ returns-2 c =
     let a = c .before .before .before .before .before .before .before .before .args in
     let e = sym (c .before .before .before .before .before .destroy-refusal .ensures)
     ∙ c .before .before .before .before .if1 .left in
-    played-accepted (a .s .now) _ _ (destroyChecks (read (a .s .now)) (a .caller) (a .h)) _ _ e refl
+    played-accepted destroyRule _ (a .s .now) _ _ e refl
     (c .before .before .destroy .ensures)
 
 pub destroy-spec : {M : Type 1} → statement M

@@ -3,6 +3,7 @@ use mathlib.Core.Path.{refl, sym, _∙_}
 use borrow.Author.Needs.{needs}
 use Rattle.session.specs.Table.{read}
 use Rattle.rules.specs.Checks.{endChecks}
+use Rattle.rules.specs.Step.{endRule}
 use Rattle.laws.specs.Met.{all-met}
 use Rattle.engine.specs.Played.{played-refused, played-accepted}
 use Rattle.engine.proofs.operations.end.Statement.{statement}
@@ -17,7 +18,7 @@ same-length c = search needs
 returns : tie.Need-returns
 returns c =
     let a = c .before .before .before .before .args in
-    played-refused (a .s .now) _ (endChecks (read (a .s .now)) (a .t) (a .b)) _ _ (c .before .end-refusal .ensures)
+    played-refused endRule _ (a .s .now) _ (c .before .end-refusal .ensures)
     (c .if1 .taken)
 
 end-requires : tie.Need-end-requires
@@ -38,7 +39,7 @@ returns-2 c =
     let a = c .before .before .before .before .before .before .before .before .args in
     let e = sym (c .before .before .before .before .before .end-refusal .ensures)
     ∙ c .before .before .before .before .if1 .left in
-    played-accepted (a .s .now) _ _ (endChecks (read (a .s .now)) (a .t) (a .b)) _ _ e refl
+    played-accepted endRule _ (a .s .now) _ _ e refl
     (c .before .before .end .ensures)
 
 pub end-spec : {M : Type 1} → statement M

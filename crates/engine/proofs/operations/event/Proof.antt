@@ -3,6 +3,7 @@ use mathlib.Core.Path.{sym, _∙_}
 use borrow.Author.Needs.{needs}
 use Rattle.session.specs.Table.{read}
 use Rattle.rules.specs.Checks.{eventChecks}
+use Rattle.rules.specs.Step.{eventRule}
 use Rattle.laws.specs.Met.{all-met}
 use Rattle.engine.specs.Played.{played-refused, played-accepted}
 use Rattle.engine.proofs.operations.event.Statement.{statement}
@@ -17,7 +18,7 @@ same-length c = search needs
 returns : tie.Need-returns
 returns c =
     let a = c .before .before .before .before .args in
-    played-refused (a .s .now) _ (eventChecks (read (a .s .now)) (a .caller) (a .ty)) _ _ (c .before .event-refusal .ensures)
+    played-refused eventRule _ (a .s .now) _ (c .before .event-refusal .ensures)
     (c .if1 .taken)
 
 event-requires : tie.Need-event-requires
@@ -38,7 +39,7 @@ returns-2 c =
     let a = c .before .before .before .before .before .before .before .before .args in
     let e = sym (c .before .before .before .before .before .event-refusal .ensures)
     ∙ c .before .before .before .before .if1 .left in
-    played-accepted (a .s .now) _ _ (eventChecks (read (a .s .now)) (a .caller) (a .ty)) _ _ e
+    played-accepted eventRule _ (a .s .now) _ _ e
     (c .before .before .event .ensures .answer) (c .before .before .event .ensures .wrote)
 
 pub event-spec : {M : Type 1} → statement M

@@ -3,6 +3,7 @@ use mathlib.Core.Path.{refl, sym, _∙_}
 use borrow.Author.Needs.{needs}
 use Rattle.session.specs.Table.{read}
 use Rattle.rules.specs.Checks.{grantChecks}
+use Rattle.rules.specs.Step.{grantRule}
 use Rattle.laws.specs.Met.{all-met}
 use Rattle.engine.specs.Played.{played-refused, played-accepted}
 use Rattle.engine.proofs.operations.grant.Statement.{statement}
@@ -17,7 +18,7 @@ same-length c = search needs
 returns : tie.Need-returns
 returns c =
     let a = c .before .before .before .before .args in
-    played-refused (a .s .now) _ (grantChecks (read (a .s .now)) (a .t)) _ _ (c .before .grant-refusal .ensures) (c .if1 .taken)
+    played-refused grantRule _ (a .s .now) _ (c .before .grant-refusal .ensures) (c .if1 .taken)
 
 grant-requires : tie.Need-grant-requires
 grant-requires c κs =
@@ -37,7 +38,7 @@ returns-2 c =
     let a = c .before .before .before .before .before .before .before .before .args in
     let e = sym (c .before .before .before .before .before .grant-refusal .ensures)
     ∙ c .before .before .before .before .if1 .left in
-    played-accepted (a .s .now) _ _ (grantChecks (read (a .s .now)) (a .t)) _ _ e refl
+    played-accepted grantRule _ (a .s .now) _ _ e refl
     (c .before .before .grant .ensures)
 
 pub grant-spec : {M : Type 1} → statement M

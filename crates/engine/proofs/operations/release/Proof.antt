@@ -3,6 +3,7 @@ use mathlib.Core.Path.{refl, sym, _∙_}
 use borrow.Author.Needs.{needs}
 use Rattle.session.specs.Table.{read}
 use Rattle.rules.specs.Checks.{releaseChecks}
+use Rattle.rules.specs.Step.{releaseRule}
 use Rattle.laws.specs.Met.{all-met}
 use Rattle.engine.specs.Played.{played-refused, played-accepted}
 use Rattle.engine.proofs.operations.release.Statement.{statement}
@@ -17,7 +18,7 @@ same-length c = search needs
 returns : tie.Need-returns
 returns c =
     let a = c .before .before .before .before .args in
-    played-refused (a .s .now) _ (releaseChecks (read (a .s .now)) (a .caller) (a .b)) _ _ (c .before .release-refusal .ensures)
+    played-refused releaseRule _ (a .s .now) _ (c .before .release-refusal .ensures)
     (c .if1 .taken)
 
 release-requires : tie.Need-release-requires
@@ -38,7 +39,7 @@ returns-2 c =
     let a = c .before .before .before .before .before .before .before .before .args in
     let e = sym (c .before .before .before .before .before .release-refusal .ensures)
     ∙ c .before .before .before .before .if1 .left in
-    played-accepted (a .s .now) _ _ (releaseChecks (read (a .s .now)) (a .caller) (a .b)) _ _ e refl
+    played-accepted releaseRule _ (a .s .now) _ _ e refl
     (c .before .before .release .ensures)
 
 pub release-spec : {M : Type 1} → statement M

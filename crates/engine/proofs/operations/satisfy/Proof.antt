@@ -3,6 +3,7 @@ use mathlib.Core.Path.{refl, sym, _∙_}
 use borrow.Author.Needs.{needs}
 use Rattle.session.specs.Table.{read}
 use Rattle.rules.specs.Checks.{satisfyChecks}
+use Rattle.rules.specs.Step.{satisfyRule}
 use Rattle.laws.specs.Met.{all-met}
 use Rattle.engine.specs.Played.{played-refused, played-accepted}
 use Rattle.engine.proofs.operations.satisfy.Statement.{statement}
@@ -17,7 +18,7 @@ same-length c = search needs
 returns : tie.Need-returns
 returns c =
     let a = c .before .before .before .before .args in
-    played-refused (a .s .now) _ (satisfyChecks (read (a .s .now)) (a .caller) (a .e) (a .b) (a .j)) _ _
+    played-refused satisfyRule _ (a .s .now) _
     (c .before .satisfy-refusal .ensures) (c .if1 .taken)
 
 satisfy-requires : tie.Need-satisfy-requires
@@ -38,7 +39,7 @@ returns-2 c =
     let a = c .before .before .before .before .before .before .before .before .args in
     let e = sym (c .before .before .before .before .before .satisfy-refusal .ensures)
     ∙ c .before .before .before .before .if1 .left in
-    played-accepted (a .s .now) _ _ (satisfyChecks (read (a .s .now)) (a .caller) (a .e) (a .b) (a .j)) _ _ e refl
+    played-accepted satisfyRule _ (a .s .now) _ _ e refl
     (c .before .before .satisfy .ensures)
 
 pub satisfy-spec : {M : Type 1} → statement M

@@ -3,6 +3,7 @@ use mathlib.Core.Path.{refl, sym, _∙_}
 use borrow.Author.Needs.{needs}
 use Rattle.session.specs.Table.{read}
 use Rattle.rules.specs.Checks.{startChecks}
+use Rattle.rules.specs.Step.{startRule}
 use Rattle.laws.specs.Met.{all-met}
 use Rattle.engine.specs.Played.{played-refused, played-accepted}
 use Rattle.engine.proofs.operations.start.Statement.{statement}
@@ -17,7 +18,7 @@ same-length c = search needs
 returns : tie.Need-returns
 returns c =
     let a = c .before .before .before .before .args in
-    played-refused (a .s .now) _ (startChecks (read (a .s .now)) (a .t)) _ _ (c .before .start-refusal .ensures) (c .if1 .taken)
+    played-refused startRule _ (a .s .now) _ (c .before .start-refusal .ensures) (c .if1 .taken)
 
 start-requires : tie.Need-start-requires
 start-requires c κs =
@@ -37,7 +38,7 @@ returns-2 c =
     let a = c .before .before .before .before .before .before .before .before .args in
     let e = sym (c .before .before .before .before .before .start-refusal .ensures)
     ∙ c .before .before .before .before .if1 .left in
-    played-accepted (a .s .now) _ _ (startChecks (read (a .s .now)) (a .t)) _ _ e refl
+    played-accepted startRule _ (a .s .now) _ _ e refl
     (c .before .before .start .ensures)
 
 pub start-spec : {M : Type 1} → statement M

@@ -3,6 +3,7 @@ use mathlib.Core.Path.{sym, _∙_}
 use borrow.Author.Needs.{needs}
 use Rattle.session.specs.Table.{read}
 use Rattle.rules.specs.Checks.{taskChecks}
+use Rattle.rules.specs.Step.{taskRule}
 use Rattle.laws.specs.Met.{all-met}
 use Rattle.engine.specs.Played.{played-refused, played-accepted}
 use Rattle.engine.proofs.operations.task.Statement.{statement}
@@ -17,7 +18,7 @@ same-length c = search needs
 returns : tie.Need-returns
 returns c =
     let a = c .before .before .before .before .args in
-    played-refused (a .s .now) _ (taskChecks (read (a .s .now)) (a .caller) (a .tm) (a .n) (a .finish) (a .out)) _ _
+    played-refused taskRule _ (a .s .now) _
     (c .before .task-refusal .ensures) (c .if1 .taken)
 
 task-requires : tie.Need-task-requires
@@ -38,7 +39,7 @@ returns-2 c =
     let a = c .before .before .before .before .before .before .before .before .args in
     let e = sym (c .before .before .before .before .before .task-refusal .ensures)
     ∙ c .before .before .before .before .if1 .left in
-    played-accepted (a .s .now) _ _ (taskChecks (read (a .s .now)) (a .caller) (a .tm) (a .n) (a .finish) (a .out)) _ _ e
+    played-accepted taskRule _ (a .s .now) _ _ e
     (c .before .before .task .ensures .answer) (c .before .before .task .ensures .wrote)
 
 pub task-spec : {M : Type 1} → statement M

@@ -3,6 +3,7 @@ use mathlib.Core.Path.{sym, _∙_}
 use borrow.Author.Needs.{needs}
 use Rattle.session.specs.Table.{read}
 use Rattle.rules.specs.Checks.{templateChecks}
+use Rattle.rules.specs.Step.{templateRule}
 use Rattle.laws.specs.Met.{all-met}
 use Rattle.engine.specs.Played.{played-refused, played-accepted}
 use Rattle.engine.proofs.operations.template.Statement.{statement}
@@ -17,7 +18,7 @@ same-length c = search needs
 returns : tie.Need-returns
 returns c =
     let a = c .before .before .before .before .args in
-    played-refused (a .s .now) _ (templateChecks (read (a .s .now)) (a .caller) (a .n)) _ _
+    played-refused templateRule _ (a .s .now) _
     (c .before .template-refusal .ensures) (c .if1 .taken)
 
 template-requires : tie.Need-template-requires
@@ -38,7 +39,7 @@ returns-2 c =
     let a = c .before .before .before .before .before .before .before .before .args in
     let e = sym (c .before .before .before .before .before .template-refusal .ensures)
     ∙ c .before .before .before .before .if1 .left in
-    played-accepted (a .s .now) _ _ (templateChecks (read (a .s .now)) (a .caller) (a .n)) _ _ e
+    played-accepted templateRule _ (a .s .now) _ _ e
     (c .before .before .template .ensures .answer) (c .before .before .template .ensures .wrote)
 
 pub template-spec : {M : Type 1} → statement M

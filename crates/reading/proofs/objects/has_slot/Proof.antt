@@ -18,7 +18,12 @@ has-type-slot-requires c κs = search needs
 
 returns : tie.Need-returns
 returns c =
-    rw (c .has-type-slot .ensures, c .before .of-object3 .ensures, c .before .before .of-object2 .ensures, c .before .before .before .of-object .ensures)
+    rw (
+      c .has-type-slot .ensures,
+      c .before .of-object3 .ensures,
+      c .before .before .of-object2 .ensures,
+      c .before .before .before .of-object .ensures,
+    )
     (simp (test-both, test-either, test-eq, test-lt))
 
 pub has-slot-spec : {M : Type 1} → statement M

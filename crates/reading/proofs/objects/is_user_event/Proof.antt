@@ -15,8 +15,7 @@ is-user-type-requires c κs = search needs
 
 returns : tie.Need-returns
 returns c =
-    rw (c .is-user-type .ensures, c .before .of-object2 .ensures, c .before .before .of-object .ensures)
-    (simp (test-both, test-eq))
+    simp (test-both, test-eq) (cc)
 
 pub is-user-event-spec : {M : Type 1} → statement M
 is-user-event-spec =

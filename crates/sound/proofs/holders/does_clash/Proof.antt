@@ -44,7 +44,12 @@ returns c =
     let e = c .before .before .before .before .before .before .before .of-slot .ensures in
     let t : a .i / 16 < objectPlaces = place-owner objectPlaces (a .i) (x .pre .1) in
     let u : a .i / 16 ≤ mostObjects = omega arith in
-    rw (c .before .before .before .before .before .conflicts .ensures, c .before .before .before .conflicts2 .ensures, c .before .conflicts3 .ensures, c .before .before .before .before .before .before .of-slot2 .ensures)
+    rw (
+      c .before .before .before .before .before .conflicts .ensures,
+      c .before .before .before .conflicts2 .ensures,
+      c .before .conflicts3 .ensures,
+      c .before .before .before .before .before .before .of-slot2 .ensures,
+    )
     (clashes-found s (a .i) _ _ _ (x .pre .3 .modes)
     (c .before .before .before .before .is-other .ensures ∙ rw e
     (x .pre .3 .says (s SlotPayload (a .i)) 1 (a .i / 16) (h .block) (omega arith) u))

@@ -7,8 +7,8 @@ use Rattle.session.specs.Table.{read}
 use Rattle.rules.specs.FormulaLaws.{passes, test-then}
 use Rattle.rules.specs.Formula.{not, Formula._≐_, Formula._and_, Formula.each}
 use Rattle.sound.specs.HolderTable.{none-clashes}
-use Rattle.sound.specs.Bodies.{clash, clashMade}
 use Rattle.rules.specs.Bools.{test-both, test-not}
+use Rattle.rules.specs.Sound.{clash, clashMade}
 use Rattle.sound.proofs.holders.is_compatible.Statement.{statement}
 use Rattle.sound.proofs.holders.is_compatible.Tie as tie
 

@@ -15,8 +15,7 @@ of-object-requires c κs = search needs
 
 returns : tie.Need-returns
 returns c =
-    rw (c .of-object .ensures, c .before .of-link2 .ensures, c .before .before .of-link .ensures)
-    (simp (test-both, test-implies, test-eq, test-le))
+    simp (test-both, test-implies, test-eq, test-le) (cc)
 
 pub does-link-agree-spec : {M : Type 1} → statement M
 does-link-agree-spec =

@@ -36,7 +36,18 @@ of-object-requires-2 c κs = search needs
 
 returns : tie.Need-returns
 returns c =
-    rw (c .of-object2 .ensures, c .before .is-made2 .ensures, c .before .before .does-link-agree .ensures, c .before .before .before .has-slot .ensures, c .before .before .before .before .is-made .ensures, c .before .before .before .before .before .is-user-event .ensures, c .before .before .before .before .before .before .of-object .ensures, c .before .before .before .before .before .before .before .of-link3 .ensures, c .before .before .before .before .before .before .before .before .of-link2 .ensures, c .before .before .before .before .before .before .before .before .before .of-link .ensures) (simp (test-both, test-either, test-eq))
+    rw (
+      c .of-object2 .ensures,
+      c .before .is-made2 .ensures,
+      c .before .before .does-link-agree .ensures,
+      c .before .before .before .has-slot .ensures,
+      c .before .before .before .before .is-made .ensures,
+      c .before .before .before .before .before .is-user-event .ensures,
+      c .before .before .before .before .before .before .of-object .ensures,
+      c .before .before .before .before .before .before .before .of-link3 .ensures,
+      c .before .before .before .before .before .before .before .before .of-link2 .ensures,
+      c .before .before .before .before .before .before .before .before .before .of-link .ensures,
+    ) (simp (test-both, test-either, test-eq))
 
 pub is-link-spec : {M : Type 1} → statement M
 is-link-spec =

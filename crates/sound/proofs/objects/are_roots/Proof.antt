@@ -36,7 +36,18 @@ of-object-requires-7 c κs = search needs
 
 returns : tie.Need-returns
 returns c =
-    rw (c .of-object7 .ensures, c .before .of-object6 .ensures, c .before .before .of-object5 .ensures, c .before .before .before .of-object4 .ensures, c .before .before .before .before .of-object3 .ensures, c .before .before .before .before .before .of-object2 .ensures, c .before .before .before .before .before .before .of-object .ensures, c .before .before .before .before .before .before .before .of-slot3 .ensures, c .before .before .before .before .before .before .before .before .of-slot2 .ensures, c .before .before .before .before .before .before .before .before .before .of-slot .ensures) (simp (test-both, test-eq, test-le))
+    rw (
+      c .of-object7 .ensures,
+      c .before .of-object6 .ensures,
+      c .before .before .of-object5 .ensures,
+      c .before .before .before .of-object4 .ensures,
+      c .before .before .before .before .of-object3 .ensures,
+      c .before .before .before .before .before .of-object2 .ensures,
+      c .before .before .before .before .before .before .of-object .ensures,
+      c .before .before .before .before .before .before .before .of-slot3 .ensures,
+      c .before .before .before .before .before .before .before .before .of-slot2 .ensures,
+      c .before .before .before .before .before .before .before .before .before .of-slot .ensures,
+    ) (simp (test-both, test-eq, test-le))
 
 pub are-roots-spec : {M : Type 1} → statement M
 are-roots-spec =

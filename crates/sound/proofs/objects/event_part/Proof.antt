@@ -29,7 +29,15 @@ returns : tie.Need-returns
 returns c =
     let f = c .before .before in
     let type = f .before .before .before in
-    rw (c .is-payload .ensures, c .before .is-event-type .ensures, f .of-object5 .ensures, f .before .of-object4 .ensures, f .before .before .of-object3 .ensures, type .of-object2 .ensures, type .before .of-object .ensures)
+    rw (
+      c .is-payload .ensures,
+      c .before .is-event-type .ensures,
+      f .of-object5 .ensures,
+      f .before .of-object4 .ensures,
+      f .before .before .of-object3 .ensures,
+      type .of-object2 .ensures,
+      type .before .of-object .ensures,
+    )
     (simp (test-not, test-both, test-either, test-eq, test-le))
 
 pub event-part-spec : {M : Type 1} → statement M

@@ -18,7 +18,7 @@ of-object-requires-4 c κs = search needs
 
 returns : tie.Need-returns
 returns c =
-    rw (c .of-object4 .ensures, c .before .of-object3 .ensures, c .before .before .of-object2 .ensures, c .before .before .before .of-object .ensures) (simp (test-both, test-either, test-implies, test-eq))
+    simp (test-both, test-either, test-implies, test-eq) (cc)
 
 pub is-latch-spec : {M : Type 1} → statement M
 is-latch-spec =

@@ -15,8 +15,7 @@ of-object-requires-3 c κs = search needs
 
 returns : tie.Need-returns
 returns c =
-    rw (c .of-object3 .ensures, c .before .of-object2 .ensures, c .before .before .of-object .ensures)
-    (simp (test-not, test-both, test-either, test-eq, test-le))
+    simp (test-not, test-both, test-either, test-eq, test-le) (cc)
 
 pub template-part-spec : {M : Type 1} → statement M
 template-part-spec =

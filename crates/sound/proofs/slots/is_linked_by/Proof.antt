@@ -21,8 +21,7 @@ of-object-requires c κs = search needs
 
 returns : tie.Need-returns
 returns c =
-    rw (c .of-object .ensures, c .before .of-link .ensures, c .before .before .of-slot .ensures)
-    (simp (test-not, test-both, test-either, test-implies, test-eq, test-le))
+    simp (test-not, test-both, test-either, test-implies, test-eq, test-le) (cc)
 
 pub is-linked-by-spec : {M : Type 1} → statement M
 is-linked-by-spec =

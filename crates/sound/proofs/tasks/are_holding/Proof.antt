@@ -5,13 +5,13 @@ use native.Mathlib.Omega.{arith}
 use borrow.Author.Needs.{needs}
 use Rattle.session.specs.Table.{read}
 use Rattle.rules.specs.Formula.{test, Formula.each}
-use Rattle.sound.specs.Bodies.{holding}
+use Rattle.rules.specs.Sound.{heldSlot}
 use Rattle.sound.specs.Loops.{each-none, each-more}
 use Rattle.sound.proofs.tasks.are_holding.Statement.{statement}
 use Rattle.sound.proofs.tasks.are_holding.Tie as tie
 
 abbrev Inv-loop : tie.InvT-loop
-Inv-loop s t n ok₀ j₀ ok j = (j ≤ n) × (ok ≡ test (each j (holding (read s) t)))
+Inv-loop s t n ok₀ j₀ ok j = (j ≤ n) × (ok ≡ test (each j (heldSlot (read s) t)))
 
 abbrev μ-loop : tie.MeasureT-loop
 μ-loop s t n ok₀ j₀ ok j = n - j

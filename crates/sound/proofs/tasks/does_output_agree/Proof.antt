@@ -21,7 +21,7 @@ is-busy-requires c κs = search needs
 
 returns : tie.Need-returns
 returns c =
-    rw (c .is-busy .ensures, c .before .of-object3 .ensures, c .before .before .of-object2 .ensures, c .before .before .before .of-object .ensures) (simp (test-not, test-both, test-either, test-implies, test-eq))
+    simp (test-not, test-both, test-either, test-implies, test-eq) (cc)
 
 pub does-output-agree-spec : {M : Type 1} → statement M
 does-output-agree-spec =

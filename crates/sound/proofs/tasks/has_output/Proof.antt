@@ -27,7 +27,15 @@ is-output-of-requires c κs = search needs
 
 returns : tie.Need-returns
 returns c =
-    rw (c .is-output-of .ensures, c .before .of-object5 .ensures, c .before .before .of-object4 .ensures, c .before .before .before .of-object3 .ensures, c .before .before .before .before .of-object2 .ensures, c .before .before .before .before .before .previous .ensures, c .before .before .before .before .before .before .of-object .ensures) (simp (test-implies, test-both, test-eq))
+    rw (
+      c .is-output-of .ensures,
+      c .before .of-object5 .ensures,
+      c .before .before .of-object4 .ensures,
+      c .before .before .before .of-object3 .ensures,
+      c .before .before .before .before .of-object2 .ensures,
+      c .before .before .before .before .before .previous .ensures,
+      c .before .before .before .before .before .before .of-object .ensures,
+    ) (simp (test-implies, test-both, test-eq))
 
 pub has-output-spec : {M : Type 1} → statement M
 has-output-spec =

@@ -2,9 +2,9 @@
 use native.Mathlib.Omega.{arith}
 use borrow.Author.Needs.{needs}
 use Rattle.session.specs.Table.{read}
-use Rattle.rules.specs.Reading.{busy}
 use Rattle.ancestors.specs.Above.{Shows}
 use Rattle.rules.specs.Bools.{chosen}
+use Rattle.rules.specs.Descendants.{busy}
 use Rattle.sound.proofs.tasks.is_busy.Statement.{statement}
 use Rattle.sound.proofs.tasks.is_busy.Tie as tie
 

@@ -27,8 +27,7 @@ of-slot-requires-2 c κs = search needs
 
 returns : tie.Need-returns
 returns c =
-    rw (c .of-slot2 .ensures, c .before .of-slot .ensures, c .before .before .of-object .ensures)
-    (simp (test-both, test-either, test-implies, test-eq, test-le))
+    simp (test-both, test-either, test-implies, test-eq, test-le) (cc)
 
 pub is-holding-spec : {M : Type 1} → statement M
 is-holding-spec =

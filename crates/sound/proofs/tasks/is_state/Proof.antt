@@ -21,7 +21,7 @@ of-object-requires-3 c κs = search needs
 
 returns : tie.Need-returns
 returns c =
-    rw (c .of-object3 .ensures, c .before .are-holding .ensures, c .before .before .is-full .ensures, c .before .before .before .of-object2 .ensures, c .before .before .before .before .of-object .ensures) (simp (test-not, test-implies, test-both, test-eq, test-le))
+    simp (test-not, test-implies, test-both, test-eq, test-le) (cc)
 
 pub is-state-spec : {M : Type 1} → statement M
 is-state-spec =

@@ -18,7 +18,7 @@ of-link-requires-4 c κs = search needs
 
 returns : tie.Need-returns
 returns c =
-    rw (c .of-link4 .ensures, c .before .of-link3 .ensures, c .before .before .of-link2 .ensures, c .before .before .before .of-link .ensures) (simp (test-both, test-eq))
+    simp (test-both, test-eq) (cc)
 
 pub is-no-link-spec : {M : Type 1} → statement M
 is-no-link-spec =

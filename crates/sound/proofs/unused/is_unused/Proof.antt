@@ -7,7 +7,7 @@ use Rattle.session.specs.Table.{read}
 use Rattle.session.specs.declared.Field.the-variants.{Objects}
 use Rattle.rules.specs.Formula.{Formula._≼_}
 use Rattle.rules.specs.FormulaLaws.{passes, test-then}
-use Rattle.sound.specs.Bodies.{emptyObject}
+use Rattle.rules.specs.Sound.{emptyObject}
 use Rattle.sound.proofs.unused.is_unused.Statement.{statement}
 use Rattle.sound.proofs.unused.is_unused.Tie as tie
 
