@@ -19,7 +19,8 @@ ghost use Rattle.session.specs.declared.Field.the-variants.{Objects, TaskState,
 ghost use Rattle.session.specs.Names.{resolved, mostObjects, slotPlaces};
 ghost use Rattle.rules.specs.Formula.{test, holds};
 ghost use Rattle.rules.specs.Sound.{sound};
-ghost use Rattle.checks.specs.GrantChecks.{slotAt, taskAt, isClaim, hasClaim, clash, makerClash, holdClash, blocksRemain, slotsFree};
+ghost use Rattle.checks.specs.GrantChecks.{slotAt, taskAt, isClaim, hasClaim, clash, makerClash, holdClash, blocksRemain};
+ghost use Rattle.checks.specs.GrantChecks.{slotsFree};
 
 // The slot at place i of the fields of slots.
 fn slot_at(s: &[u64], i: usize) -> Slot

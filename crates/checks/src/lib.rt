@@ -7,7 +7,9 @@ ghost use Rattle.session.specs.Table.{read, words};
 ghost use Rattle.session.specs.Lent.{was};
 ghost use Rattle.rules.specs.Formula.{holds};
 ghost use Rattle.rules.specs.Sound.{sound};
-ghost use Rattle.rules.specs.Checks.{refusal, templateChecks, taskChecks, eventChecks, blockChecks, dependenceChecks, satisfyChecks, releaseChecks, destroyChecks, deliverChecks, grantChecks, startChecks, endChecks};
+ghost use Rattle.rules.specs.Checks.{refusal, templateChecks, taskChecks, eventChecks, blockChecks, dependenceChecks};
+ghost use Rattle.rules.specs.Checks.{satisfyChecks, releaseChecks, destroyChecks, deliverChecks, grantChecks, startChecks};
+ghost use Rattle.rules.specs.Checks.{endChecks};
 ghost use Rattle.checks.specs.CheckParts.{satisfyOrLinkChecks};
 
 pub mod granting;
@@ -26,6 +28,7 @@ use crate::objects::is_made_or_null;
 use crate::objects::is_source;
 use crate::objects::is_unclaimed;
 use crate::objects::remains_or_null;
+use reading::has_event_slot;
 use reading::has_slot;
 use reading::holds_block;
 use reading::is_fired_sticky;
@@ -209,7 +212,7 @@ pub fn satisfy_refusal(s: &[u64], caller: u64, e: u64, b: u64, j: u64) -> u64
     if !remains_or_null(s, b) {
         return refusals::GONE;
     }
-    if !has_slot(s, e, j) {
+    if !has_event_slot(s, e, j) {
         return refusals::NO_SUCH_SLOT;
     }
     if is_fired_sticky(s, e) {

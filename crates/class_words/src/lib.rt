@@ -10,7 +10,8 @@ ghost use Prim.Native.Nat.{_≤_};
 ghost use mathlib.Core.Path.{_≡_};
 ghost use lib.ListN.{length};
 ghost use Rattle.number.specs.Number.{splice};
-ghost use Rattle.class_words.specs.Words.{codeOf, stageOf, placeOf, pendingOf, reportOf, held, sheetHeld, pendingWords, wordsOf, puts, Reports};
+ghost use Rattle.class_words.specs.Words.{codeOf, stageOf, placeOf, pendingOf, reportOf, held, sheetHeld, pendingWords};
+ghost use Rattle.class_words.specs.Words.{wordsOf, puts, Reports};
 
 // How many words say where a report stands.
 pub const CLASS_WORDS: usize = 18;

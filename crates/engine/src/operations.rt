@@ -7,7 +7,8 @@ ghost use lib.ListN.{length};
 ghost use Rattle.session.specs.Table.{read, words};
 ghost use Rattle.rules.specs.Formula.{holds};
 ghost use Rattle.rules.specs.Sound.{sound};
-ghost use Rattle.rules.specs.Step.{templateRule, taskRule, eventRule, blockRule, dependenceRule, satisfyRule, releaseRule, destroyRule, deliverRule, grantRule, startRule, endRule};
+ghost use Rattle.rules.specs.Step.{templateRule, taskRule, eventRule, blockRule, dependenceRule, satisfyRule, releaseRule};
+ghost use Rattle.rules.specs.Step.{destroyRule, deliverRule, grantRule, startRule, endRule};
 ghost use Rattle.engine.specs.Played.{Plays, PlaysCode};
 
 pub fn template(s: &mut [u64], caller: u64, n: u64) -> Answer

@@ -15,7 +15,8 @@ ghost use Rattle.rules.specs.Effects.{buryDoomed, letGo, release};
 ghost use Rattle.laws.specs.Met.{met};
 ghost use Rattle.reading.specs.Holds.{Active};
 ghost use Rattle.holding.specs.SweepRows.{row};
-ghost use Rattle.holding.specs.Letting.{markAfter, markRow, slotsLetGo, madeRow, madeLetGo, buried, Unheld, Unmarked, Doomed};
+ghost use Rattle.holding.specs.Letting.{markAfter, markRow, slotsLetGo, madeRow, madeLetGo, buried, Unheld, Unmarked};
+ghost use Rattle.holding.specs.Letting.{Doomed};
 
 // A slot's mark once its task lets go of block b, or of every block where b is 0.
 fn mark_after(mark: u64, payload: u64, b: u64) -> u64

@@ -126,15 +126,15 @@ module _ (s : Session) where
   finished t x (fires-now y e p) =
       let f = finishes-by-name s (t + 1) y in
       rw e (fires-on-time (s TaskState t) (s TaskFinish t) (busy s t) (rw (back t) at (f .over)) (rw (back t) at (f .idle)))
-  finished t x (stays n e p) =
-      rw e (was-on-time (s EventState (t + 1)) (s TaskState t) (s TaskFinish t) (busy s t) none (x .1))
+  finished t ((made, (kind, type)), when) (stays n e p) =
+      rw e (was-on-time (s EventState (t + 1)) (s TaskState t) (s TaskFinish t) (busy s t) none when)
     where
       none : s EventState (t + 1) ≡ eventOpen → s TaskFinish t ≡ 1 → s TaskState t ≡ ended → (holds (busy s t) → ⊥) → ⊥
       none o f d m =
           n (finishes-of s (t + 1)
           (record {
-            kind = x .0 .1 .0;
-            type = x .0 .1 .1;
+            kind = kind;
+            type = type;
             unfired = o;
             finish = rw (back t) f;
             over = rw (back t) d;

@@ -1,3 +1,4 @@
 pub mod TestLaws
 pub mod Gone
+pub mod SlotsByKind
 pub mod Holds

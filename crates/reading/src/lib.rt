@@ -7,6 +7,7 @@ mod objects;
 pub use holds::holds_block;
 pub use holds::is_held;
 pub use objects::drops;
+pub use objects::has_event_slot;
 pub use objects::has_slot;
 pub use objects::is_fired_sticky;
 pub use objects::is_full;

@@ -9,12 +9,13 @@ use session::names;
 ghost use mathlib.Core.Path.{_≡_};
 ghost use Prim.Native.Nat.{_≤_};
 ghost use lib.ListN.{length};
-ghost use Rattle.session.specs.Names.{mostObjects, mostLinks};
+ghost use Rattle.session.specs.Names.{event, mostObjects, mostLinks};
 ghost use Rattle.session.specs.Table.{read, words};
 ghost use Rattle.session.specs.Lent.{was};
 ghost use Rattle.session.specs.declared.Field.the-variants.{TaskSlots};
-ghost use Rattle.rules.specs.Formula.{test};
-ghost use Rattle.rules.specs.Reading.{made, isKind, isUserEvent, isRunning, isLive, isGone, hasSlot, isUndelivered, overflows, isFiredSticky};
+ghost use Rattle.rules.specs.Formula.{holds, test};
+ghost use Rattle.rules.specs.Reading.{made, isKind, isUserEvent, isRunning, isLive, isGone, hasSlot, isUndelivered, overflows};
+ghost use Rattle.rules.specs.Reading.{isFiredSticky};
 ghost use Rattle.rules.specs.Checks.{taskSlots};
 ghost use Rattle.rules.specs.Effects.{drops};
 ghost use Rattle.rules.specs.Sound.{full};
@@ -103,14 +104,27 @@ pub fn is_gone(s: &[u64], h: u64) -> bool
     false
 }
 
+// Whether an event has a slot of that number. Internal: callers have shown the length, and that it is an event.
+pub fn has_event_slot(s: &[u64], e: u64, j: u64) -> bool
+    requires { ⌜ (words ≤ length (now s)) × holds (isKind (read (now s)) event e) ⌝ }
+    ensures { λ r. ⌜ r ≡ test (hasSlot (was s) e j) ⌝ }
+{
+    has_type_slot(of_object(s, Field::EventType, e), j)
+}
+
 // Whether an object has a slot of that number.
 pub fn has_slot(s: &[u64], h: u64, j: u64) -> bool
     requires { ⌜ words ≤ length (now s) ⌝ }
     ensures { λ r. ⌜ r ≡ test (hasSlot (was s) h j) ⌝ }
 {
     let kind = of_object(s, Field::Kind, h);
-    (kind == names::TASK) & (j < of_object(s, Field::TaskSlots, h))
-        | (kind == names::EVENT) & has_type_slot(of_object(s, Field::EventType, h), j)
+    if kind == names::TASK {
+        return j < of_object(s, Field::TaskSlots, h);
+    }
+    if kind == names::EVENT {
+        return has_event_slot(s, h, j);
+    }
+    false
 }
 
 // Whether a satisfaction of slot j would take the latch e out of its range.

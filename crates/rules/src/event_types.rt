@@ -2,7 +2,8 @@
 // output events (their task) are told from others.
 ghost use mathlib.Core.Path.{_≡_};
 ghost use Rattle.rules.specs.Formula.{test};
-ghost use Rattle.rules.specs.EventTypes.{isEventType, isOfferedType, isUserType, goneWhenFired, refusesFurther, hasTypeSlot};
+ghost use Rattle.rules.specs.EventTypes.{isEventType, isOfferedType, isUserType, goneWhenFired, refusesFurther};
+ghost use Rattle.rules.specs.EventTypes.{hasTypeSlot};
 use session::names;
 
 pub fn is_event_type(ty: u64) -> bool

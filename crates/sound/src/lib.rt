@@ -10,7 +10,8 @@ ghost use Rattle.session.specs.declared.Field.the-variants.{Objects};
 ghost use Rattle.rules.specs.Formula.{test};
 ghost use Rattle.rules.specs.Sound.{sound, links, slots};
 ghost use Rattle.sound.specs.LinkOf.{Linked};
-ghost use Rattle.sound.specs.RulesInOrder.{Counted, Known, soundMemory, parts, linkedUp, uses, fromParts, fromOutputs, fromLinks, fromSlots};
+ghost use Rattle.sound.specs.RulesInOrder.{Counted, Known, soundMemory, parts, linkedUp, uses, fromParts, fromOutputs};
+ghost use Rattle.sound.specs.RulesInOrder.{fromLinks, fromSlots};
 use session::Field;
 use session::names;
 

@@ -60,7 +60,7 @@ abbrev asked-12 : tie.Else8 → List Check
 asked-12 c = asked-11 (c .before .before)
 
 past-12 : (c : tie.Else8) → Left (asked-12 c) 12
-past-12 c = past-11 (c .before .before) ∙ skip _ _ _ (yes-not _ (c .before .has-slot .ensures) (c .if8 .left))
+past-12 c = past-11 (c .before .before) ∙ skip _ _ _ (yes-not _ (c .before .has-event-slot .ensures) (c .if8 .left))
 
 abbrev asked-14 : tie.Else9 → List Check
 asked-14 c = asked-12 (c .before .before)
@@ -123,11 +123,13 @@ returns-7 c =
     stops _ _ _ (past-10 (c .before .before .before .before))
     (λ x. no-not _ (c .before .remains-or-null .ensures) (c .if7 .taken) (x .1))
 
-has-slot-requires : tie.Need-has-slot-requires
-has-slot-requires c κs = search needs
+has-event-slot-requires : tie.Need-has-event-slot-requires
+has-event-slot-requires c κs =
+    let u = c .before .before .before .before .before .before in
+    (search needs, yes-not _ (u .before .is-user-event .ensures) (u .if4 .left) .0)
 
 returns-8 : tie.Need-returns-8
-returns-8 c = stops _ _ _ (past-11 (c .before .before)) (no-not _ (c .before .has-slot .ensures) (c .if8 .taken))
+returns-8 c = stops _ _ _ (past-11 (c .before .before)) (no-not _ (c .before .has-event-slot .ensures) (c .if8 .taken))
 
 is-fired-sticky-requires : tie.Need-is-fired-sticky-requires
 is-fired-sticky-requires c κs = search needs
@@ -163,7 +165,7 @@ satisfy-refusal-spec =
     returns-6
     remains-or-null-requires
     returns-7
-    has-slot-requires
+    has-event-slot-requires
     returns-8
     is-fired-sticky-requires
     returns-9
