@@ -1,12 +1,11 @@
 -- What a change of a session writes: the steps of an effect, each with its field.
 use Prim.Native.Nat.{ℕ}
 use mathlib.Core.Path.{refl, _∙_, fun-ext}
-use mathlib.Core.Bool.{Bool, true, false}
+use mathlib.Core.Bool.{Bool}
 use mathlib.Core.List.{List, _∷_}
-use Rattle.session.specs.Table.{Session, same, pick, put, change}
+use Rattle.session.specs.Table.{Session, same, put, change}
 use Rattle.session.specs.TableLaws.{same-eq}
 use Rattle.session.specs.declared.Field.{Field}
-use Rattle.rules.specs.Formula.{Formula, choose, test}
 use Rattle.laws.specs.Tables.{Keys, amongOf, OutsideOf}
 pub use Rattle.laws.specs.Tables.{neither, outside-same, outside-then, outside-within}
 
@@ -31,12 +30,3 @@ pub outside-change : {s q : Session} {f : Field} {ws : List Field} (new : ℕ �
 unfolding change
 outside-change {q = q} {f = f} {ws = ws} new o =
     record { as-was = λ g e. let n = neither (same f g) (among g ws) e in fun-ext (λ j. rw (n .0) refl) ∙ o .as-was g (n .1) }
-
--- one effect or another, which write the same fields
-pub outside-choose : {s q r : Session} {ws : List Field} (c : Formula) → Outside s q ws → Outside s r ws
-    → Outside s (choose c q r) ws
-outside-choose {s = s} {q = q} {r = r} {ws = ws} c o p = go (test c)
-  where
-    go : (b : Bool) → Outside s (pick b q r) ws
-    go true = o
-    go false = p

@@ -26,10 +26,6 @@ place-low i = omega arith
 pub place-owner : (n i : ℕ) → i < 16 * n → i / 16 < n
 place-owner n i h = omega arith
 
--- and a slot of somebody below n is a place below 16 * n
-pub place-below : (n t j : ℕ) → t < n → j < 16 → at t j < 16 * n
-place-below n t j h l = omega arith
-
 -- slots at one place are one slot
 pub same-task : (h k t j : ℕ) → k < 16 → j < 16 → at t j ≡ at h k → t ≡ h
 same-task h k t j l m e = omega arith
