@@ -1,31 +1,22 @@
--- The tasks that hold blocks by their slots: how far they are looked for, and how the places of their slots are numbered.
+-- A list of the tasks that hold blocks by their slots, as far as they were looked for, and how the places of their slots are numbered.
 use Prim.Native.Nat.{ℕ, _+_, _*_, _-_, _/_, _%_, _≤_, _<_}
-use mathlib.Core.Path.{_≡_, ap, subst, _∙_}
+use mathlib.Core.Path.{_≡_, ap, _∙_}
 use mathlib.Core.List.{List}
 use native.Mathlib.Omega.{arith}
 use native.Mathlib.Decide.{decLt}
-use borrow.Author.Count.{below-more}
 use lib.ListN.{length, getD, set, length-set}
 use lib.Seq.{getD-set-same, getD-set-other}
 use Rattle.session.specs.Table.{Session}
-use Rattle.session.specs.declared.Field.the-variants.{Objects, TaskState, TaskSlots, SlotMark}
-use Rattle.session.specs.Names.{granted, running, held, mostObjects, objectPlaces, slotPlaces}
-use Rattle.rules.specs.Formula.{Formula, holds, Formula._≐_, Formula._or_}
+use Rattle.session.specs.declared.Field.the-variants.{Objects, TaskSlots, SlotMark}
+use Rattle.session.specs.Names.{held, mostObjects, objectPlaces, slotPlaces}
+use Rattle.rules.specs.Formula.{Formula, holds, Formula._≐_}
 use Rattle.rules.specs.Sound.{sound}
+use Rattle.reading.specs.Holders.{isHolder, Passed}
 use Rattle.checks.specs.SoundParts.{Hold, hold-at}
-
--- a task that may hold blocks by its slots
-abbrev pub isHolder : Session → ℕ → Formula
-isHolder s h = s TaskState h ≐ granted or s TaskState h ≐ running
 
 -- the slot at place k holds its block
 abbrev pub isHold : Session → ℕ → Formula
 isHold s k = s SlotMark k ≐ held
-
--- from a on to r, without r, the formula holds nowhere
-pub record Passed (f : ℕ → Formula) (a r : ℕ) : Type 0 where
-  pub from : a ≤ r
-  pub none : (i : ℕ) → i < r → a ≤ i → holds (f i) → ⊥
 
 -- a list of handles, as of holders: number q of the places of their slots
 unfoldable pub placeOf : List ℕ → ℕ → ℕ
@@ -50,35 +41,6 @@ pub record More (s : Session) (g k : List ℕ) (n r q : ℕ) : Type 0 where
   pub up : n ≤ r
   pub same : (p : ℕ) → p < n → getD k p 0 ≡ getD g p 0
   pub done : 16 * r ≤ q → s Objects 0 < reach k r
-
--- nothing is passed at the start, and then one more that the formula does not hold of
-pub pass-none : (f : ℕ → Formula) (a r : ℕ) → r ≡ a → Passed f a r
-pass-none f a r e = record { from = omega arith; none = λ i l h. absurd (less i l h) }
-  where
-    less : (i : ℕ) → i < r → a ≤ i → ⊥
-    less i l h = omega arith
-
-pub pass-more : (f : ℕ → Formula) (a r q : ℕ) → q ≡ r + 1 → Passed f a r → (holds (f r) → ⊥) → Passed f a q
-pass-more f a r q e p n =
-    rw e (record {
-      from = let l = p .from in omega arith;
-      none = below-more (λ (i : ℕ). a ≤ i → holds (f i) → ⊥) r (p .none) (λ h. n);
-    })
-
-pub pass-on : (f : ℕ → Formula) (a r q : ℕ) → Passed f a r → Passed f r q → Passed f a q
-pass-on f a r q p o = record { from = let l = p .from in let m = o .from in omega arith; none = λ i l h. go i l h (decLt i r) }
-  where
-    go : (i : ℕ) → i < q → a ≤ i → Dec (i < r) → holds (f i) → ⊥
-    go i l h (yes b) = p .none i b h
-    go i l h (no b) = o .none i l (omega arith)
-
--- so many in a row that the formula holds of none of
-pub pass-row : (f : ℕ → Formula) (a c : ℕ) → ((n : ℕ) → n < c → holds (f (a + n)) → ⊥) → Passed f a (a + c)
-pass-row f a c h =
-    record {
-      from = omega arith;
-      none = λ i l g x. let e : i ≡ a + (i - a) = omega arith in h (i - a) (omega arith) (subst (λ (n : ℕ). holds (f n)) e x);
-    }
 
 place-owner : (g : List ℕ) (q : ℕ) → placeOf g q / 16 ≡ getD g (q / 16) 0
 unfolding placeOf

@@ -24,7 +24,8 @@ use Rattle.laws.specs.Rows.Name.{kinds, taskParts}
 use Rattle.laws.specs.ByName.{sound-by-name}
 use Rattle.laws.specs.Conjuncts.{no-task}
 use Rattle.checks.specs.SoundParts.{Hold, hold-at, few-objects}
-use Rattle.checks.specs.HolderList.{Passed, Listed, isHold, placeOf, reach, place-few, place-first, place-number}
+use Rattle.reading.specs.Holders.{Passed}
+use Rattle.checks.specs.HolderList.{Listed, isHold, placeOf, reach, place-few, place-first, place-number}
 use Rattle.checks.specs.GrantChecks.{slotAt, taskAt, upTo, isClaim, clash, makerClash, holdClash}
 
 length-upTo : {A : Type 0} (n : ℕ) (f : ℕ → A) → length (upTo n f) ≡ n

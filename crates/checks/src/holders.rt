@@ -1,67 +1,20 @@
 // The tasks that hold blocks by their slots, for a scan that goes over their holds several times: they are looked for once, and
 // only as far as a scan comes. Handle 0 is always the first of the list, and the last handle the last of a whole one, as if they
 // were holders. Internal.
+use reading::next_holder;
 use session::Field;
 use session::names;
 ghost use mathlib.Core.Path.{_≡_};
 ghost use Prim.Native.Nat.{_+_, _*_, _/_, _≤_, _<_};
 ghost use lib.ListN.{length, getD};
-ghost use Rattle.session.specs.Names.{mostObjects, objectPlaces, slotPlaces};
+ghost use Rattle.session.specs.Names.{mostObjects, slotPlaces};
 ghost use Rattle.session.specs.Table.{read, words};
 ghost use Rattle.session.specs.Lent.{was};
 ghost use Rattle.session.specs.declared.Field.the-variants.{Objects};
-ghost use Rattle.rules.specs.Formula.{test, holds, Formula.some};
+ghost use Rattle.rules.specs.Formula.{holds};
 ghost use Rattle.rules.specs.Sound.{sound};
-ghost use Rattle.checks.specs.HolderList.{Passed, Listed, More, isHolder, isHold, placeOf};
-
-// Whether h may hold blocks by its slots.
-fn is_holder(s: &[u64], h: usize) -> bool
-    requires { ⌜ (words ≤ length (now s)) × (h < objectPlaces) ⌝ }
-    ensures { λ r. ⌜ r ≡ test (isHolder (was s) h) ⌝ }
-{
-    let state = session::get(s, Field::TaskState, h);
-    if state == names::GRANTED {
-        return true;
-    }
-    state == names::RUNNING
-}
-
-// Whether one of the eight handles from h on is a holder's. The bound of the loop is constant, so that the compiler makes
-// eight tests in a row of it.
-fn has_holder(s: &[u64], h: usize) -> bool
-    requires { ⌜ (words ≤ length (now s)) × (h + 8 ≤ objectPlaces) ⌝ }
-    ensures { λ r. ⌜ r ≡ test (some 8 (λ n. isHolder (was s) (h + n))) ⌝ }
-{
-    let mut n: usize = 0;
-    while n < 8 {
-        if is_holder(s, h + n) {
-            return true;
-        }
-        n += 1;
-    }
-    false
-}
-
-// The first holder from `from` on, or n if none is before it. Eight handles at a time are passed over first.
-fn next_holder(s: &[u64], n: usize, from: usize) -> usize
-    requires { ⌜ (words ≤ length (now s)) × (from ≤ n) × (n ≤ mostObjects) ⌝ }
-    ensures { λ r. ⌜ (r ≤ n) × Passed (isHolder (was s)) from r ⌝ }
-{
-    let mut h = from;
-    while h + 8 <= n {
-        if has_holder(s, h) {
-            break;
-        }
-        h += 8;
-    }
-    while h < n {
-        if is_holder(s, h) {
-            return h;
-        }
-        h += 1;
-    }
-    h
-}
+ghost use Rattle.reading.specs.Holders.{Passed};
+ghost use Rattle.checks.specs.HolderList.{Listed, More, isHold, placeOf};
 
 // One holder more, once number q is past the places of those that there are; as many as before if they go up to the last
 // handle.

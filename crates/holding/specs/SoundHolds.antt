@@ -2,12 +2,12 @@
 use Prim.Native.Nat.{ℕ, _+_, _≤_, _<_}
 use mathlib.Core.Path.{_≡_}
 use mathlib.Core.List.{List, [], _∷_}
-use mathlib.Core.Logic.{_⊎_, inl, inr}
+use mathlib.Core.Logic.{inl, inr}
 use native.Mathlib.Omega.{arith}
 use native.Mathlib.Decide.{decLt}
 use Rattle.session.specs.Table.{Session, read}
-use Rattle.session.specs.declared.Field.the-variants.{Objects, Kind, TaskState, BlockState, BlockHeld}
-use Rattle.session.specs.Names.{granted, running, objectPlaces}
+use Rattle.session.specs.declared.Field.the-variants.{Objects, Kind, TaskSlots, BlockState, BlockHeld}
+use Rattle.session.specs.Names.{objectPlaces}
 use Rattle.session.specs.TableLaws.{read-past}
 use Rattle.rules.specs.Formula.{holds}
 use Rattle.rules.specs.Reading.{isHeld}
@@ -16,6 +16,7 @@ use Rattle.laws.specs.Rows.Name.{counts, kinds, blockParts, slots, states, bloc
 use Rattle.laws.specs.Keeping.{But}
 use Rattle.laws.specs.ByName.{sound-by-name}
 use Rattle.laws.specs.Conjuncts.{state-by-name, State.slot-holds}
+use Rattle.reading.specs.Holders.{isHolder}
 use Rattle.reading.specs.Holds.{Active}
 use Rattle.holding.specs.Letting.{Unheld, Unmarked, Doomed}
 
@@ -65,10 +66,6 @@ module _ (ws : List ℕ) (good : holds (sound (read ws))) where
   pub active : Active s
   active h j l b e = go (r slots h (omega arith) j b)
     where
-      either : (s TaskState h ≡ granted) ⊎ (s TaskState h ≡ running) → (granted ≤ s TaskState h) × (s TaskState h ≤ running)
-      either (inl q) = (omega arith, omega arith)
-      either (inr q) = (omega arith, omega arith)
-
-      go : holds (slot s h j) → (granted ≤ s TaskState h) × (s TaskState h ≤ running)
-      go (inl x) = either (state-by-name h s (r states h (omega arith) (x .0)) slot-holds j (x .1 .0) .1 e .1)
+      go : holds (slot s h j) → holds (isHolder s h) × (j < s TaskSlots h)
+      go (inl x) = (state-by-name h s (r states h (omega arith) (x .0)) slot-holds j (x .1 .0) .1 e .1, x .1 .0)
       go (inr (past, (no-mode, (no-mark, no-payload)))) = absurd (omega arith)

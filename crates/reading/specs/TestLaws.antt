@@ -2,6 +2,7 @@
 use Prim.Native.Nat.{ℕ, _+_, _-_, _≤_}
 use mathlib.Core.Path.{_≡_, refl, sym, ap, _∙_}
 use mathlib.Core.Bool.{Bool, true, false, not}
+use mathlib.Core.Logic.{inl, inr}
 use native.Mathlib.Omega.{arith}
 use borrow.Author.Tests.{not-true, not-false}
 use lib.Dec.{eqb, leb}
@@ -37,6 +38,13 @@ after f g h e = e ∙ sym (test-and f g h)
 
 pub beside : {r : Bool} (f g : Formula) → (holds f → ⊥) → r ≡ test g → r ≡ test (f or g)
 beside f g n e = e ∙ sym (test-or f g n)
+
+pub ahead : {r : Bool} (f g : Formula) → (holds g → ⊥) → r ≡ test f → r ≡ test (f or g)
+ahead f g n e = e ∙ test-same f (f or g) inl (λ x. go x)
+  where
+    go : holds (f or g) → holds f
+    go (inl x) = x
+    go (inr y) = absurd (n y)
 
 pub given : {r : Bool} (f g : Formula) → holds f → r ≡ test g → r ≡ test (f then g)
 given f g h e = e ∙ sym (test-then f g h)

@@ -1,4 +1,5 @@
 // Who holds a block (Reading.antt). Internal: callers have shown the length.
+use crate::holders::next_holder;
 use crate::of_object;
 use session::Field;
 use session::names;
@@ -55,32 +56,36 @@ pub fn holds_block(s: &[u64], t: u64, b: u64) -> bool
     requires { ⌜ words ≤ length (now s) ⌝ }
     ensures { λ r. ⌜ r ≡ test (holdsBlock (was s) t b) ⌝ }
 {
-    if names::MOST_OBJECTS < t {
-        return holds_made(s, t, b);
-    }
-    if task_holds(s, b, t) {
+    if holds_made(s, t, b) {
         return true;
     }
-    holds_made(s, t, b)
+    if names::MOST_OBJECTS < t {
+        return false;
+    }
+    task_holds(s, b, t)
 }
 
-// The same as `task_holds`, with a look at the slots of a granted or running task only: no other holds. Internal: callers have shown that.
-fn active_holds(s: &[u64], b: u64, h: u64) -> bool
+// The same as `task_holds`, with a look at the pre-slots only: no other slot holds. Internal: callers have shown that.
+fn holder_holds(s: &[u64], b: u64, h: u64) -> bool
     requires { ⌜ (words ≤ length (now s)) × (h ≤ mostObjects) × (h ≤ read (now s) Objects 0) × Active (read (now s)) ⌝ }
     ensures { λ r. ⌜ r ≡ test (slotsHold (was s) b h) ⌝ }
 {
-    let state = session::get(s, Field::TaskState, h as usize);
-    if state < names::GRANTED {
-        return false;
+    let n = session::get(s, Field::TaskSlots, h as usize);
+    let mut j: u64 = 0;
+    while j < 16 {
+        if n <= j {
+            return false;
+        }
+        if slot_holds(s, b, (h * 16 + j) as usize) {
+            return true;
+        }
+        j += 1;
     }
-    if names::RUNNING < state {
-        return false;
-    }
-    task_holds(s, b, h)
+    false
 }
 
-// Whether somebody holds block b. Internal: callers have shown the length, the handles, and that only granted and running tasks
-// hold by their slots.
+// Whether somebody holds block b. Internal: callers have shown the length, the handles, and that only the pre-slots of granted
+// and running tasks hold.
 pub fn is_held(s: &[u64], b: u64) -> bool
     requires { ⌜ (words ≤ length (now s)) × (read (now s) Objects 0 ≤ mostObjects) × (b ≤ mostObjects) × Active (read (now s)) ⌝ }
     ensures { λ r. ⌜ r ≡ test (isHeld (was s) b) ⌝ }
@@ -88,13 +93,13 @@ pub fn is_held(s: &[u64], b: u64) -> bool
     if session::get(s, Field::BlockHeld, b as usize) == 1 {
         return true;
     }
-    let n = session::get(s, Field::Objects, 0);
-    let mut h: u64 = 0;
-    while h <= n {
-        if active_holds(s, b, h) {
+    let n = session::get(s, Field::Objects, 0) as usize + 1;
+    let mut h = next_holder(s, n, 0);
+    while h < n {
+        if holder_holds(s, b, h as u64) {
             return true;
         }
-        h += 1;
+        h = next_holder(s, n, h + 1);
     }
     false
 }

@@ -1,13 +1,13 @@
--- `checks::holders::next_holder` meets its contract: both loops keep that no holder was passed, eight at a time (`pass-row`) and
+-- `reading::holders::next_holder` meets its contract: both loops keep that no holder was passed, eight at a time (`pass-row`) and
 -- then one by one (`pass-more`).
 use Prim.Native.Nat.{_-_, _≤_}
-use Rattle.checks.specs.HolderList.{Passed, isHolder, pass-more, pass-none, pass-on, pass-row}
+use Rattle.reading.specs.Holders.{Passed, isHolder, pass-more, pass-none, pass-on, pass-row}
 use Rattle.reading.specs.TestLaws.{no}
 use Rattle.session.specs.Table.{read}
 use mathlib.Core.Path.{refl}
 use native.Mathlib.Omega.{arith}
-use Rattle.checks.proofs.holders.next_holder.Statement.{statement}
-use Rattle.checks.proofs.holders.next_holder.Tie as tie
+use Rattle.reading.proofs.holders.next_holder.Statement.{statement}
+use Rattle.reading.proofs.holders.next_holder.Tie as tie
 
 abbrev Inv-loop : tie.InvT-loop
 Inv-loop s n from h₀ h = (h ≤ n) × Passed (isHolder (read s)) from h

@@ -1,12 +1,12 @@
--- `checks::holders::is_holder` meets its contract: granted is the first side of the `or` (`right`), and of any other state the
+-- `reading::holders::is_holder` meets its contract: granted is the first side of the `or` (`right`), and of any other state the
 -- second decides (`beside`).
 use Rattle.reading.specs.TestLaws.{beside, equals, right}
 use borrow.Author.Needs.{needs}
 use mathlib.Core.Logic.{inl}
 use mathlib.Core.Path.{_∙_, sym}
 use native.Mathlib.Omega.{arith}
-use Rattle.checks.proofs.holders.is_holder.Statement.{statement}
-use Rattle.checks.proofs.holders.is_holder.Tie as tie
+use Rattle.reading.proofs.holders.is_holder.Statement.{statement}
+use Rattle.reading.proofs.holders.is_holder.Tie as tie
 
 get-requires : tie.Need-get-requires
 get-requires c κs = search needs
