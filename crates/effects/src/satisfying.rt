@@ -8,12 +8,28 @@ ghost use lib.ListN.{length};
 ghost use Rattle.session.specs.Names.{mostObjects, topTally};
 ghost use Rattle.session.specs.Table.{read, words};
 ghost use Rattle.session.specs.Lent.{was, Becomes};
-ghost use Rattle.rules.specs.Formula.{holds};
-ghost use Rattle.rules.specs.Sound.{sound};
+ghost use Rattle.session.specs.declared.Field.the-variants.{TaskSlots};
+ghost use Rattle.rules.specs.Formula.{holds, test};
+ghost use Rattle.rules.specs.Sound.{sound, full};
 ghost use Rattle.rules.specs.Checks.{satisfyChecks};
 ghost use Rattle.rules.specs.Effects as rules;
 ghost use Rattle.laws.specs.Met.{met};
 ghost use Rattle.effects.specs.Satisfying.{Firable, Countable, Fillable, Triggerable, Satisfiable, nextTally};
+
+// The same as `is_full`, with a look at the last pre-slot first: slots are mostly filled in turn, and then it is the one that is
+// empty. Internal, as `is_full` is.
+fn is_filled(s: &[u64], t: u64) -> bool
+    requires { ⌜ (words ≤ length (now s)) × (t ≤ mostObjects) × (read (now s) TaskSlots t ≤ 16) ⌝ }
+    ensures { λ r. ⌜ r ≡ test (full (was s) t) ⌝ }
+{
+    let n = session::get(s, Field::TaskSlots, t as usize) as usize;
+    if 0 < n {
+        if session::get(s, Field::SlotMark, t as usize * 16 + n - 1) == 0 {
+            return false;
+        }
+    }
+    is_full(s, t)
+}
 
 // Satisfies slot j of task t with p. Internal: callers have shown the length, the handle and the slot.
 fn satisfy_slot(s: &mut [u64], t: u64, j: u64, p: u64)
@@ -23,7 +39,7 @@ fn satisfy_slot(s: &mut [u64], t: u64, j: u64, p: u64)
     let at = t as usize * 16 + j as usize;
     session::set(s, Field::SlotMark, at, session::names::SATISFIED);
     session::set(s, Field::SlotPayload, at, p);
-    if is_full(s, t) {
+    if is_filled(s, t) {
         session::set(s, Field::TaskState, t as usize, session::names::RESOLVED);
     }
 }

@@ -1,4 +1,5 @@
 pub mod TestLaws
+pub mod Loops
 pub mod Gone
 pub mod SlotsByKind
 pub mod Holders

@@ -186,21 +186,21 @@ pub fn task_slots(s: &[u64], template: u64, n: u64) -> u64
     n
 }
 
-// Whether every pre-slot of task t is satisfied. Internal: callers have shown the length, the handle and the count of slots.
+// Whether every pre-slot of task t is satisfied. An empty one does not end the loop: check 2 asks it of each task, and a branch
+// there would be foreseen badly. Internal: callers have shown the length, the handle and the count of slots.
 pub fn is_full(s: &[u64], t: u64) -> bool
     requires { ⌜ (words ≤ length (now s)) × (t ≤ mostObjects) × (read (now s) TaskSlots t ≤ 16) ⌝ }
     ensures { λ r. ⌜ r ≡ test (full (was s) t) ⌝ }
 {
     let n = session::get(s, Field::TaskSlots, t as usize) as usize;
     let first = t as usize * 16;
+    let mut ok = true;
     let mut j: usize = 0;
     while j < n {
-        if session::get(s, Field::SlotMark, first + j) == 0 {
-            return false;
-        }
+        ok = (1 <= session::get(s, Field::SlotMark, first + j)) & ok;
         j += 1;
     }
-    true
+    ok
 }
 
 // Whether a link is open or ready; callers have shown that it has a place.

@@ -1,4 +1,3 @@
-pub mod Loops
 pub mod Row
 pub mod LinkOf
 pub mod Held

@@ -14,7 +14,6 @@ use crate::places::previous;
 use reading::is_full;
 use reading::is_made;
 use reading::of_object;
-use reading::of_slot;
 use session::Field;
 use session::names;
 
@@ -52,12 +51,12 @@ pub fn are_creators(s: &[u64], n: u64) -> bool
 
 // A slot is held only by a granted or running task, and by a granted one if it has a block.
 fn is_holding(s: &[u64], t: u64, j: u64) -> bool
-    requires { ⌜ (words ≤ length (now s)) × (t ≤ mostObjects) × (j ≤ 16) ⌝ }
+    requires { ⌜ (words ≤ length (now s)) × (t ≤ mostObjects) × (j < 16) ⌝ }
     ensures { λ r. ⌜ r ≡ test (heldSlot (was s) t j) ⌝ }
 {
-    let state = of_object(s, Field::TaskState, t);
-    let mark = of_slot(s, Field::SlotMark, t * 16 + j);
-    let payload = of_slot(s, Field::SlotPayload, t * 16 + j);
+    let state = session::get(s, Field::TaskState, t as usize);
+    let mark = session::get(s, Field::SlotMark, (t * 16 + j) as usize);
+    let payload = session::get(s, Field::SlotPayload, (t * 16 + j) as usize);
     let held = mark == names::HELD;
     let granted = state == names::GRANTED;
     (!(granted & (1 <= payload)) | held)
@@ -82,12 +81,12 @@ fn is_state(s: &[u64], t: u64) -> bool
     requires { ⌜ (words ≤ length (now s)) × (t ≤ mostObjects) × (read (now s) TaskSlots t ≤ 16) ⌝ }
     ensures { λ r. ⌜ r ≡ test (stateAt (was s) t) ⌝ }
 {
-    let n = of_object(s, Field::TaskSlots, t);
-    let state = of_object(s, Field::TaskState, t);
+    let n = session::get(s, Field::TaskSlots, t as usize);
+    let state = session::get(s, Field::TaskState, t as usize);
     let full = is_full(s, t);
     let settled = (names::RESOLVED <= state) & (state <= names::ENDED);
     let agrees = (!(state == names::WAITING) | !full) & ((!settled | full) & are_holding(s, t, n));
-    !(of_object(s, Field::Kind, t) == names::TASK) | agrees
+    !(session::get(s, Field::Kind, t as usize) == names::TASK) | agrees
 }
 
 pub fn are_states(s: &[u64], n: u64) -> bool

@@ -1,4 +1,4 @@
--- `effects::satisfying::satisfy_slot` meets its contract: the mark and the payload are put (`wrote-more`); by what `is_full`
+-- `effects::satisfying::satisfy_slot` meets its contract: the mark and the payload are put (`wrote-more`); by what `is_filled`
 -- answers the state comes behind them (`filled-last`) or does not (`filled-one`).
 use mathlib.Core.Path.{_≡_, sym, _∙_}
 use mathlib.Core.Bool.{true, false}
@@ -24,9 +24,9 @@ set-requires c κs = search needs
 set-requires-2 : tie.Need-set-requires-2
 set-requires-2 c κs = search needs
 
-is-full-requires : tie.Need-is-full-requires
+is-filled-requires : tie.Need-is-filled-requires
 unfolding put
-is-full-requires c κs =
+is-filled-requires c κs =
     let two = c .before .before .before in
     let one = two .before .before .before .before in
     let a = one .before .before .before .args in
@@ -50,7 +50,7 @@ returns c =
     let w = wrote-more SlotPayload _ (a .p) (wrote-more SlotMark _ _ (wrote-none (a .s .now)) (one .set .ensures))
     (two .set2 .ensures) in
     let e : test (full (filled (read (a .s .now)) (a .t) (a .j) (a .p)) (a .t)) ≡ true = rw (w .reading) at
-    (sym (f .is-full .ensures) ∙ c .before .before .before .before .if1 .taken) in
+    (sym (f .is-filled .ensures) ∙ c .before .before .before .before .if1 .taken) in
     rw (← filled-last _ _ _ _ e) (wrote-more TaskState _ _ w (c .before .before .set3 .ensures))
 
 same-length-2 : tie.Need-same-length-2
@@ -65,7 +65,7 @@ returns-2 c =
     let w = wrote-more SlotPayload _ (a .p) (wrote-more SlotMark _ _ (wrote-none (a .s .now)) (one .set .ensures))
     (two .set2 .ensures) in
     let e : test (full (filled (read (a .s .now)) (a .t) (a .j) (a .p)) (a .t)) ≡ false = rw (w .reading) at
-    (sym (f .is-full .ensures) ∙ c .if1 .left) in
+    (sym (f .is-filled .ensures) ∙ c .if1 .left) in
     rw (← filled-one _ _ _ _ e) w
 
 pub satisfy-slot-spec : {M : Type 1} → statement M
@@ -76,7 +76,7 @@ satisfy-slot-spec =
     add-at
     set-requires
     set-requires-2
-    is-full-requires
+    is-filled-requires
     set-requires-3
     same-length
     returns

@@ -6,7 +6,7 @@ use borrow.Author.Needs.{needs}
 use Rattle.session.specs.Table.{read}
 use Rattle.rules.specs.Formula.{test, Formula.each}
 use Rattle.rules.specs.Sound.{blockAt}
-use Rattle.sound.specs.Loops.{each-none, each-more}
+use Rattle.reading.specs.Loops.{each-none, each-more}
 use Rattle.sound.proofs.blocks.are_blocks.Statement.{statement}
 use Rattle.sound.proofs.blocks.are_blocks.Tie as tie
 

@@ -6,7 +6,7 @@ use Rattle.session.specs.Table.{read}
 use Rattle.rules.specs.Formula.{test, Formula.each}
 use Rattle.rules.specs.Sound.{compatibleAt}
 use Rattle.sound.specs.HolderTable.{Holders, holders-none}
-use Rattle.sound.specs.Loops.{each-none, each-more}
+use Rattle.reading.specs.Loops.{each-none, each-more}
 use Rattle.sound.proofs.holders.are_compatible_by.Statement.{statement}
 use Rattle.sound.proofs.holders.are_compatible_by.Tie as tie
 

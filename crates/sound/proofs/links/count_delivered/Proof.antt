@@ -9,7 +9,7 @@ use Rattle.rules.specs.FormulaLaws.{passed, failed}
 use Rattle.rules.specs.Formula.{count as countOf}
 use Rattle.rules.specs.Sound.{isDelivered}
 use Rattle.laws.specs.Counting.{count-next-yes, count-next-no}
-use Rattle.sound.specs.Loops.{count-none}
+use Rattle.reading.specs.Loops.{count-none}
 use Rattle.sound.proofs.links.count_delivered.Statement.{statement}
 use Rattle.sound.proofs.links.count_delivered.Tie as tie
 

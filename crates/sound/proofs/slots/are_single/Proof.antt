@@ -5,7 +5,7 @@ use native.Mathlib.Omega.{arith}
 use Rattle.session.specs.Table.{read}
 use Rattle.rules.specs.Formula.{test, Formula.each}
 use Rattle.sound.specs.LinkOf.{single, single-first}
-use Rattle.sound.specs.Loops.{each-more}
+use Rattle.reading.specs.Loops.{each-more}
 use Rattle.sound.proofs.slots.are_single.Statement.{statement}
 use Rattle.sound.proofs.slots.are_single.Tie as tie
 

@@ -5,7 +5,7 @@ use native.Mathlib.Omega.{arith}
 use Rattle.session.specs.Table.{read}
 use Rattle.rules.specs.Formula.{test, Formula.each}
 use Rattle.sound.specs.LinkOf.{slotsAt}
-use Rattle.sound.specs.Loops.{each-none, each-more}
+use Rattle.reading.specs.Loops.{each-none, each-more}
 use Rattle.sound.proofs.slots.are_slots.Statement.{statement}
 use Rattle.sound.proofs.slots.are_slots.Tie as tie
 

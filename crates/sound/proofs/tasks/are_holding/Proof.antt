@@ -6,7 +6,7 @@ use borrow.Author.Needs.{needs}
 use Rattle.session.specs.Table.{read}
 use Rattle.rules.specs.Formula.{test, Formula.each}
 use Rattle.rules.specs.Sound.{heldSlot}
-use Rattle.sound.specs.Loops.{each-none, each-more}
+use Rattle.reading.specs.Loops.{each-none, each-more}
 use Rattle.sound.proofs.tasks.are_holding.Statement.{statement}
 use Rattle.sound.proofs.tasks.are_holding.Tie as tie
 

@@ -4,26 +4,26 @@ use Rattle.rules.specs.Bools.{test-both, test-either, test-implies, test-eq, te
 use Rattle.sound.proofs.tasks.is_holding.Statement.{statement}
 use Rattle.sound.proofs.tasks.is_holding.Tie as tie
 
-of-object-requires : tie.Need-of-object-requires
-of-object-requires c κs = search needs
+get-requires : tie.Need-get-requires
+get-requires c κs = search needs
 
-mul-of-slot : tie.Need-mul-of-slot
-mul-of-slot c = search needs
+mul-get : tie.Need-mul-get
+mul-get c = search needs
 
-add-of-slot : tie.Need-add-of-slot
-add-of-slot c = search needs
+add-get : tie.Need-add-get
+add-get c = search needs
 
-of-slot-requires : tie.Need-of-slot-requires
-of-slot-requires c κs = search needs
+get-requires-2 : tie.Need-get-requires-2
+get-requires-2 c κs = search needs
 
-mul-of-slot-2 : tie.Need-mul-of-slot-2
-mul-of-slot-2 c = search needs
+mul-get-2 : tie.Need-mul-get-2
+mul-get-2 c = search needs
 
-add-of-slot-2 : tie.Need-add-of-slot-2
-add-of-slot-2 c = search needs
+add-get-2 : tie.Need-add-get-2
+add-get-2 c = search needs
 
-of-slot-requires-2 : tie.Need-of-slot-requires-2
-of-slot-requires-2 c κs = search needs
+get-requires-3 : tie.Need-get-requires-3
+get-requires-3 c κs = search needs
 
 returns : tie.Need-returns
 returns c =
@@ -33,11 +33,11 @@ pub is-holding-spec : {M : Type 1} → statement M
 is-holding-spec =
     tie.close
     (tie.spec
-    of-object-requires
-    mul-of-slot
-    add-of-slot
-    of-slot-requires
-    mul-of-slot-2
-    add-of-slot-2
-    of-slot-requires-2
+    get-requires
+    mul-get
+    add-get
+    get-requires-2
+    mul-get-2
+    add-get-2
+    get-requires-3
     returns)

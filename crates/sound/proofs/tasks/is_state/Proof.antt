@@ -4,11 +4,11 @@ use Rattle.rules.specs.Bools.{test-not, test-implies, test-both, test-eq, test-
 use Rattle.sound.proofs.tasks.is_state.Statement.{statement}
 use Rattle.sound.proofs.tasks.is_state.Tie as tie
 
-of-object-requires : tie.Need-of-object-requires
-of-object-requires c κs = search needs
+get-requires : tie.Need-get-requires
+get-requires c κs = search needs
 
-of-object-requires-2 : tie.Need-of-object-requires-2
-of-object-requires-2 c κs = search needs
+get-requires-2 : tie.Need-get-requires-2
+get-requires-2 c κs = search needs
 
 is-full-requires : tie.Need-is-full-requires
 is-full-requires c κs = search needs
@@ -16,8 +16,8 @@ is-full-requires c κs = search needs
 are-holding-requires : tie.Need-are-holding-requires
 are-holding-requires c κs = search needs
 
-of-object-requires-3 : tie.Need-of-object-requires-3
-of-object-requires-3 c κs = search needs
+get-requires-3 : tie.Need-get-requires-3
+get-requires-3 c κs = search needs
 
 returns : tie.Need-returns
 returns c =
@@ -27,9 +27,9 @@ pub is-state-spec : {M : Type 1} → statement M
 is-state-spec =
     tie.close
     (tie.spec
-    of-object-requires
-    of-object-requires-2
+    get-requires
+    get-requires-2
     is-full-requires
     are-holding-requires
-    of-object-requires-3
+    get-requires-3
     returns)
