@@ -110,7 +110,7 @@ fn bury_all(s: &mut [u64])
 }
 
 // Task t lets go of block b. Internal: callers have shown the length, the handles, that doomed blocks are held, and that only
-// granted and running tasks hold by their slots.
+// the pre-slots of granted and running tasks hold.
 pub fn let_go_block(s: &mut [u64], t: u64, b: u64)
     requires { ⌜ (words ≤ length (now s)) × (read (now s) Objects 0 ≤ mostObjects) × (t ≤ mostObjects) × (1 ≤ b)
         × (b ≤ mostObjects) × Doomed (read (now s)) × Active (read (now s)) ⌝ }

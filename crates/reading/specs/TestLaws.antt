@@ -40,7 +40,7 @@ pub beside : {r : Bool} (f g : Formula) → (holds f → ⊥) → r ≡ test g �
 beside f g n e = e ∙ sym (test-or f g n)
 
 pub ahead : {r : Bool} (f g : Formula) → (holds g → ⊥) → r ≡ test f → r ≡ test (f or g)
-ahead f g n e = e ∙ test-same f (f or g) inl (λ x. go x)
+ahead f g n e = e ∙ test-same f (f or g) inl go
   where
     go : holds (f or g) → holds f
     go (inl x) = x

@@ -186,8 +186,8 @@ pub fn task_slots(s: &[u64], template: u64, n: u64) -> u64
     n
 }
 
-// Whether every pre-slot of task t is satisfied. An empty one does not end the loop: check 2 asks it of each task, and a branch
-// there would be foreseen badly. Internal: callers have shown the length, the handle and the count of slots.
+// Whether every pre-slot of task t is satisfied. An empty one does not end the loop, as in no loop of check 2, which asks it of each
+// task. Internal: callers have shown the length, the handle and the count of slots.
 pub fn is_full(s: &[u64], t: u64) -> bool
     requires { ⌜ (words ≤ length (now s)) × (t ≤ mostObjects) × (read (now s) TaskSlots t ≤ 16) ⌝ }
     ensures { λ r. ⌜ r ≡ test (full (was s) t) ⌝ }

@@ -3,7 +3,7 @@
 use Rattle.reading.specs.Holds.{no-slots}
 use Rattle.reading.specs.TestLaws.{ahead, no, right, wrong, yes}
 use borrow.Author.Needs.{needs}
-use mathlib.Core.Logic.{inl, inr}
+use mathlib.Core.Logic.{inr}
 use Rattle.reading.proofs.holds.holds_block.Statement.{statement}
 use Rattle.reading.proofs.holds.holds_block.Tie as tie
 
