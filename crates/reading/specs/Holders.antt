@@ -18,6 +18,12 @@ pub record Passed (f : ℕ → Formula) (a r : ℕ) : Type 0 where
   pub from : a ≤ r
   pub none : (i : ℕ) → i < r → a ≤ i → holds (f i) → ⊥
 
+-- the first from a on that the formula holds of, or n if it holds of none before n
+pub record First (f : ℕ → Formula) (a n r : ℕ) : Type 0 where
+  pub within : r ≤ n
+  pub passed : Passed f a r
+  pub there : r < n → holds (f r)
+
 -- nothing is passed at the start, and then one more that the formula does not hold of
 pub pass-none : (f : ℕ → Formula) (a r : ℕ) → r ≡ a → Passed f a r
 pass-none f a r e = record { from = omega arith; none = λ i l h. absurd (less i l h) }

@@ -9,7 +9,7 @@ ghost use Rattle.session.specs.Names.{objectPlaces};
 ghost use Rattle.session.specs.Table.{words};
 ghost use Rattle.session.specs.Lent.{was};
 ghost use Rattle.rules.specs.Formula.{test, Formula.some};
-ghost use Rattle.reading.specs.Holders.{Passed, isHolder};
+ghost use Rattle.reading.specs.Holders.{First, isHolder};
 
 // Whether task h may hold blocks by its slots.
 fn is_holder(s: &[u64], h: usize) -> bool
@@ -42,7 +42,7 @@ fn has_holder(s: &[u64], h: usize) -> bool
 // The first holder from `from` on, or n if none is before it. Eight handles at a time are passed over first.
 pub fn next_holder(s: &[u64], n: usize, from: usize) -> usize
     requires { ⌜ (words ≤ length (now s)) × (from ≤ n) × (n ≤ objectPlaces) ⌝ }
-    ensures { λ r. ⌜ (r ≤ n) × Passed (isHolder (was s)) from r ⌝ }
+    ensures { λ r. ⌜ First (isHolder (was s)) from n r ⌝ }
 {
     let mut h = from;
     while h + 8 <= n {

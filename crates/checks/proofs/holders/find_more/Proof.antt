@@ -58,7 +58,7 @@ add-result c = search needs
 returns-3 : tie.Need-returns-3
 returns-3 c =
     let x = c .before .before .before .before .before .before in
-    more-listed _ _ _ (x .pre .2) _ _ (x .pre .3) (omega arith) (c .next-holder .ensures .1)
+    more-listed _ _ _ (x .pre .2) _ _ (x .pre .3) (omega arith) (c .next-holder .ensures .passed)
 
 pub find-more-spec : {M : Type 1} → statement M
 find-more-spec =

@@ -1,8 +1,8 @@
 -- `reading::holders::next_holder` meets its contract: both loops keep that no holder was passed, eight at a time (`pass-row`) and
--- then one by one (`pass-more`).
+-- then one by one (`pass-more`); it ends at a holder, or at n.
 use Prim.Native.Nat.{_-_, _≤_}
 use Rattle.reading.specs.Holders.{Passed, isHolder, pass-more, pass-none, pass-on, pass-row}
-use Rattle.reading.specs.TestLaws.{no}
+use Rattle.reading.specs.TestLaws.{yes, no}
 use Rattle.session.specs.Table.{read}
 use mathlib.Core.Path.{refl}
 use native.Mathlib.Omega.{arith}
@@ -51,7 +51,13 @@ is-holder-requires : tie.Need-is-holder-requires Inv-loop μ-loop Inv-loop2 μ-l
 is-holder-requires c κs = omega arith
 
 returns : tie.Need-returns Inv-loop μ-loop Inv-loop2 μ-loop2
-returns c = let l = c .before .before .before .loop2 in (omega arith, l .inv .1)
+returns c =
+    let l = c .before .before .before .loop2 in
+    record {
+      within = omega arith;
+      passed = l .inv .1;
+      there = λ b. yes _ (c .before .is-holder .ensures) (c .if2 .taken);
+    }
 
 add-h-2 : tie.Need-add-h-2 Inv-loop μ-loop Inv-loop2 μ-loop2
 add-h-2 c = omega arith
@@ -65,7 +71,9 @@ loop2-again c =
     (omega arith, pass-more _ _ _ _ refl (l .inv .1) (no _ (c .before .is-holder .ensures) (c .if2 .left)))
 
 returns-2 : tie.Need-returns-2 Inv-loop μ-loop Inv-loop2 μ-loop2
-returns-2 c = c .before .loop2 .inv
+returns-2 c =
+    let i = c .before .loop2 .inv in
+    record { within = i .0; passed = i .1; there = λ b. absurd (omega arith) }
 
 pub next-holder-spec : {M : Type 1} → statement M
 next-holder-spec =

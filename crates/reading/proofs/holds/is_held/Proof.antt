@@ -53,8 +53,8 @@ loop-holds c =
       p .0,
       p .3,
       (λ x. b .before .if1 .left (b .before .before .get .ensures ∙ x)),
-      f .0,
-      held-past s _ _ 0 _ e (f .0) (p .3) (λ k l. absurd (none k l)) (f .1),
+      f .within,
+      held-past s _ _ 0 _ e (f .within) (p .3) (λ k l. absurd (none k l)) (f .passed),
     )
   where
     none : (k : ℕ) → k < 0 → ⊥
@@ -84,7 +84,7 @@ next-holder-requires-2 c κs =
 loop-less : tie.Need-loop-less Inv-loop μ-loop
 loop-less c =
     let f = c .next-holder2 .ensures in
-    omega (arith, f .0, f .1 .from)
+    omega (arith, f .within, f .passed .from)
 
 loop-again : tie.Need-loop-again Inv-loop μ-loop
 loop-again c =
@@ -97,8 +97,8 @@ loop-again c =
       i .2,
       i .3,
       i .4,
-      f .0,
-      held-past s _ _ _ _ (i .0) (f .0) (i .3) (below-more _ _ (i .6) n) (f .1),
+      f .within,
+      held-past s _ _ _ _ (i .0) (f .within) (i .3) (below-more _ _ (i .6) n) (f .passed),
     )
 
 returns-3 : tie.Need-returns-3 Inv-loop μ-loop

@@ -8,7 +8,7 @@ get-requires : tie.Need-get-requires
 get-requires c κs = search needs
 
 returns : tie.Need-returns
-returns c = rw (c .get .ensures) (simp (test-both, test-le))
+returns c = simp (c .get .ensures, test-both, test-le)
 
 pub is-made-spec : {M : Type 1} → statement M
 is-made-spec = tie.close (tie.spec get-requires returns)

@@ -15,7 +15,13 @@ is-user-type-requires c κs = search needs
 
 returns : tie.Need-returns
 returns c =
-    simp (test-both, test-eq) (cc)
+    simp (
+      c .is-user-type .ensures,
+      c .before .of-object2 .ensures,
+      c .before .before .of-object .ensures,
+      test-both,
+      test-eq,
+    )
 
 pub is-user-event-spec : {M : Type 1} → statement M
 is-user-event-spec =

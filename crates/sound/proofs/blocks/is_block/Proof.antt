@@ -24,7 +24,19 @@ of-object-requires-5 c κs = search needs
 
 returns : tie.Need-returns
 returns c =
-    simp (test-not, test-implies, test-both, test-eq, test-le) (cc)
+    simp (
+      c .of-object5 .ensures,
+      c .before .is-held-by .ensures,
+      c .before .before .of-object4 .ensures,
+      c .before .before .before .of-object3 .ensures,
+      c .before .before .before .before .of-object2 .ensures,
+      c .before .before .before .before .before .of-object .ensures,
+      test-not,
+      test-implies,
+      test-both,
+      test-eq,
+      test-le,
+    )
 
 pub is-block-spec : {M : Type 1} → statement M
 is-block-spec =

@@ -21,13 +21,17 @@ conflicts-requires c κs = search needs
 
 returns : tie.Need-returns
 returns c =
-    rw (
+    simp (
       c .conflicts .ensures,
       c .before .of-object2 .ensures,
       c .before .before .of-object .ensures,
       c .before .before .before .of-slot2 .ensures,
       c .before .before .before .before .of-slot .ensures,
-    ) (simp (test-not, test-both, test-either, test-eq))
+      test-not,
+      test-both,
+      test-either,
+      test-eq,
+    )
 
 pub clashes-with-maker-spec : {M : Type 1} → statement M
 clashes-with-maker-spec =

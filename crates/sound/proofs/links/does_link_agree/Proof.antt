@@ -15,7 +15,15 @@ of-object-requires c κs = search needs
 
 returns : tie.Need-returns
 returns c =
-    simp (test-both, test-implies, test-eq, test-le) (cc)
+    simp (
+      c .of-object .ensures,
+      c .before .of-link2 .ensures,
+      c .before .before .of-link .ensures,
+      test-both,
+      test-implies,
+      test-eq,
+      test-le,
+    )
 
 pub does-link-agree-spec : {M : Type 1} → statement M
 does-link-agree-spec =

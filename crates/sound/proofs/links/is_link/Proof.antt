@@ -36,7 +36,7 @@ of-object-requires-2 c κs = search needs
 
 returns : tie.Need-returns
 returns c =
-    rw (
+    simp (
       c .of-object2 .ensures,
       c .before .is-made2 .ensures,
       c .before .before .does-link-agree .ensures,
@@ -47,7 +47,10 @@ returns c =
       c .before .before .before .before .before .before .before .of-link3 .ensures,
       c .before .before .before .before .before .before .before .before .of-link2 .ensures,
       c .before .before .before .before .before .before .before .before .before .of-link .ensures,
-    ) (simp (test-both, test-either, test-eq))
+      test-both,
+      test-either,
+      test-eq,
+    )
 
 pub is-link-spec : {M : Type 1} → statement M
 is-link-spec =

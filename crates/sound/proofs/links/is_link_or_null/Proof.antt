@@ -8,7 +8,7 @@ is-link-requires : tie.Need-is-link-requires
 is-link-requires c κs = search needs
 
 returns : tie.Need-returns
-returns c = rw (c .is-link .ensures) (simp (test-either, test-eq))
+returns c = simp (c .is-link .ensures, test-either, test-eq)
 
 pub is-link-or-null-spec : {M : Type 1} → statement M
 is-link-or-null-spec = tie.close (tie.spec is-link-requires returns)

@@ -11,7 +11,7 @@ get-requires-2 : tie.Need-get-requires-2
 get-requires-2 c κs = search needs
 
 returns : tie.Need-returns
-returns c = rw (c .get2 .ensures, c .before .get .ensures) (simp (test-both, test-le))
+returns c = simp (c .get2 .ensures, c .before .get .ensures, test-both, test-le)
 
 pub are-counts-spec : {M : Type 1} → statement M
 are-counts-spec = tie.close (tie.spec get-requires get-requires-2 returns)

@@ -36,7 +36,7 @@ of-object-requires-7 c κs = search needs
 
 returns : tie.Need-returns
 returns c =
-    rw (
+    simp (
       c .of-object7 .ensures,
       c .before .of-object6 .ensures,
       c .before .before .of-object5 .ensures,
@@ -47,7 +47,10 @@ returns c =
       c .before .before .before .before .before .before .before .of-slot3 .ensures,
       c .before .before .before .before .before .before .before .before .of-slot2 .ensures,
       c .before .before .before .before .before .before .before .before .before .of-slot .ensures,
-    ) (simp (test-both, test-eq, test-le))
+      test-both,
+      test-eq,
+      test-le,
+    )
 
 pub are-roots-spec : {M : Type 1} → statement M
 are-roots-spec =

@@ -24,14 +24,19 @@ of-object-requires-5 c κs = search needs
 
 returns : tie.Need-returns
 returns c =
-    rw (
+    simp (
       c .of-object5 .ensures,
       c .before .is-made .ensures,
       c .before .before .of-object4 .ensures,
       c .before .before .before .of-object3 .ensures,
       c .before .before .before .before .of-object2 .ensures,
       c .before .before .before .before .before .of-object .ensures,
-    ) (simp (test-not, test-both, test-either, test-eq, test-le))
+      test-not,
+      test-both,
+      test-either,
+      test-eq,
+      test-le,
+    )
 
 pub block-part-spec : {M : Type 1} → statement M
 block-part-spec =

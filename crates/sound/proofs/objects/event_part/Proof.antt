@@ -29,7 +29,7 @@ returns : tie.Need-returns
 returns c =
     let f = c .before .before in
     let type = f .before .before .before in
-    rw (
+    simp (
       c .is-payload .ensures,
       c .before .is-event-type .ensures,
       f .of-object5 .ensures,
@@ -37,8 +37,12 @@ returns c =
       f .before .before .of-object3 .ensures,
       type .of-object2 .ensures,
       type .before .of-object .ensures,
+      test-not,
+      test-both,
+      test-either,
+      test-eq,
+      test-le,
     )
-    (simp (test-not, test-both, test-either, test-eq, test-le))
 
 pub event-part-spec : {M : Type 1} → statement M
 event-part-spec =

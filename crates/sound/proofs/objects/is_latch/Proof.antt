@@ -18,7 +18,16 @@ of-object-requires-4 c κs = search needs
 
 returns : tie.Need-returns
 returns c =
-    simp (test-both, test-either, test-implies, test-eq) (cc)
+    simp (
+      c .of-object4 .ensures,
+      c .before .of-object3 .ensures,
+      c .before .before .of-object2 .ensures,
+      c .before .before .before .of-object .ensures,
+      test-both,
+      test-either,
+      test-implies,
+      test-eq,
+    )
 
 pub is-latch-spec : {M : Type 1} → statement M
 is-latch-spec =

@@ -21,7 +21,16 @@ block-part-requires c κs = search needs
 
 returns : tie.Need-returns
 returns c =
-    simp (test-implies, test-both, test-le) (cc)
+    simp (
+      c .block-part .ensures,
+      c .before .event-part .ensures,
+      c .before .before .task-part .ensures,
+      c .before .before .before .template-part .ensures,
+      c .before .before .before .before .of-object .ensures,
+      test-implies,
+      test-both,
+      test-le,
+    )
 
 pub is-object-spec : {M : Type 1} → statement M
 is-object-spec =

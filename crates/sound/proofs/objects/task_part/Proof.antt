@@ -24,7 +24,19 @@ of-object-requires-6 c κs = search needs
 
 returns : tie.Need-returns
 returns c =
-    simp (test-not, test-both, test-either, test-eq, test-le) (cc)
+    simp (
+      c .of-object6 .ensures,
+      c .before .of-object5 .ensures,
+      c .before .before .of-object4 .ensures,
+      c .before .before .before .of-object3 .ensures,
+      c .before .before .before .before .of-object2 .ensures,
+      c .before .before .before .before .before .of-object .ensures,
+      test-not,
+      test-both,
+      test-either,
+      test-eq,
+      test-le,
+    )
 
 pub task-part-spec : {M : Type 1} → statement M
 task-part-spec =

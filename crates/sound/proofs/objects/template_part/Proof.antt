@@ -15,7 +15,16 @@ of-object-requires-3 c κs = search needs
 
 returns : tie.Need-returns
 returns c =
-    simp (test-not, test-both, test-either, test-eq, test-le) (cc)
+    simp (
+      c .of-object3 .ensures,
+      c .before .of-object2 .ensures,
+      c .before .before .of-object .ensures,
+      test-not,
+      test-both,
+      test-either,
+      test-eq,
+      test-le,
+    )
 
 pub template-part-spec : {M : Type 1} → statement M
 template-part-spec =

@@ -11,7 +11,7 @@ of-object-requires : tie.Need-of-object-requires
 of-object-requires c κs = search needs
 
 returns : tie.Need-returns
-returns c = rw (c .before .is-made .ensures, c .of-object .ensures) (simp (test-both, test-either, test-eq, test-le))
+returns c = simp (c .of-object .ensures, c .before .is-made .ensures, test-both, test-either, test-eq, test-le)
 
 pub is-payload-spec : {M : Type 1} → statement M
 is-payload-spec = tie.close (tie.spec is-made-requires of-object-requires returns)

@@ -42,14 +42,18 @@ is-payload-requires c κs = search needs
 
 returns : tie.Need-returns
 returns c =
-    rw (
+    simp (
       c .is-payload .ensures,
       c .before .is-paid-by .ensures,
       c .before .before .is-linked-by .ensures,
       c .before .before .before .of-slot3 .ensures,
       c .before .before .before .before .of-slot2 .ensures,
       c .before .before .before .before .before .of-slot .ensures,
-    ) (simp (test-implies, test-both, test-eq, test-le))
+      test-implies,
+      test-both,
+      test-eq,
+      test-le,
+    )
 
 pub is-claimed-by-spec : {M : Type 1} → statement M
 is-claimed-by-spec =

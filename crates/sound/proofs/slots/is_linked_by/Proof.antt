@@ -21,7 +21,17 @@ of-object-requires c κs = search needs
 
 returns : tie.Need-returns
 returns c =
-    simp (test-not, test-both, test-either, test-implies, test-eq, test-le) (cc)
+    simp (
+      c .of-object .ensures,
+      c .before .of-link .ensures,
+      c .before .before .of-slot .ensures,
+      test-not,
+      test-both,
+      test-either,
+      test-implies,
+      test-eq,
+      test-le,
+    )
 
 pub is-linked-by-spec : {M : Type 1} → statement M
 is-linked-by-spec =

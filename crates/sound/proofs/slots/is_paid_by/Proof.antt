@@ -33,7 +33,17 @@ of-slot-requires-2 c κs = search needs
 
 returns : tie.Need-returns
 returns c =
-    simp (test-both, test-implies, test-eq, test-le) (cc)
+    simp (
+      c .of-slot2 .ensures,
+      c .before .of-object .ensures,
+      c .before .before .of-link2 .ensures,
+      c .before .before .before .of-link .ensures,
+      c .before .before .before .before .of-slot .ensures,
+      test-both,
+      test-implies,
+      test-eq,
+      test-le,
+    )
 
 pub is-paid-by-spec : {M : Type 1} → statement M
 is-paid-by-spec =

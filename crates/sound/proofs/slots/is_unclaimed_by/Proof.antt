@@ -33,7 +33,13 @@ of-slot-requires-3 c κs = search needs
 
 returns : tie.Need-returns
 returns c =
-    simp (test-both, test-eq) (cc)
+    simp (
+      c .of-slot3 .ensures,
+      c .before .of-slot2 .ensures,
+      c .before .before .of-slot .ensures,
+      test-both,
+      test-eq,
+    )
 
 pub is-unclaimed-by-spec : {M : Type 1} → statement M
 is-unclaimed-by-spec =

@@ -21,7 +21,17 @@ is-busy-requires c κs = search needs
 
 returns : tie.Need-returns
 returns c =
-    simp (test-not, test-both, test-either, test-implies, test-eq) (cc)
+    simp (
+      c .is-busy .ensures,
+      c .before .of-object3 .ensures,
+      c .before .before .of-object2 .ensures,
+      c .before .before .before .of-object .ensures,
+      test-not,
+      test-both,
+      test-either,
+      test-implies,
+      test-eq,
+    )
 
 pub does-output-agree-spec : {M : Type 1} → statement M
 does-output-agree-spec =

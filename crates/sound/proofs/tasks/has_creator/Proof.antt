@@ -11,7 +11,7 @@ is-creator-requires : tie.Need-is-creator-requires
 is-creator-requires c κs = search needs
 
 returns : tie.Need-returns
-returns c = rw (c .is-creator .ensures, c .before .of-object .ensures) (simp (test-implies, test-eq))
+returns c = simp (c .is-creator .ensures, c .before .of-object .ensures, test-implies, test-eq)
 
 pub has-creator-spec : {M : Type 1} → statement M
 has-creator-spec = tie.close (tie.spec of-object-requires is-creator-requires returns)

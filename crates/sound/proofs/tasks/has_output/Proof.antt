@@ -27,7 +27,7 @@ is-output-of-requires c κs = search needs
 
 returns : tie.Need-returns
 returns c =
-    rw (
+    simp (
       c .is-output-of .ensures,
       c .before .of-object5 .ensures,
       c .before .before .of-object4 .ensures,
@@ -35,7 +35,10 @@ returns c =
       c .before .before .before .before .of-object2 .ensures,
       c .before .before .before .before .before .previous .ensures,
       c .before .before .before .before .before .before .of-object .ensures,
-    ) (simp (test-implies, test-both, test-eq))
+      test-implies,
+      test-both,
+      test-eq,
+    )
 
 pub has-output-spec : {M : Type 1} → statement M
 has-output-spec =

@@ -15,7 +15,16 @@ of-object-requires-3 c κs = search needs
 
 returns : tie.Need-returns
 returns c =
-    simp (test-both, test-either, test-eq, test-lt, test-le) (cc)
+    simp (
+      c .of-object3 .ensures,
+      c .before .of-object2 .ensures,
+      c .before .before .of-object .ensures,
+      test-both,
+      test-either,
+      test-eq,
+      test-lt,
+      test-le,
+    )
 
 pub is-creator-spec : {M : Type 1} → statement M
 is-creator-spec =

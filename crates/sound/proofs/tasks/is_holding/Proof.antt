@@ -27,7 +27,16 @@ get-requires-3 c κs = search needs
 
 returns : tie.Need-returns
 returns c =
-    simp (test-both, test-either, test-implies, test-eq, test-le) (cc)
+    simp (
+      c .get3 .ensures,
+      c .before .get2 .ensures,
+      c .before .before .get .ensures,
+      test-both,
+      test-either,
+      test-implies,
+      test-eq,
+      test-le,
+    )
 
 pub is-holding-spec : {M : Type 1} → statement M
 is-holding-spec =

@@ -27,12 +27,14 @@ of-object-requires-2 c κs = search needs
 
 returns : tie.Need-returns
 returns c =
-    rw (
+    simp (
       c .of-object2 .ensures,
       c .before .is-made .ensures,
       c .before .before .does-output-agree .ensures,
       c .before .before .before .of-object .ensures,
-    ) (simp (test-both, test-eq))
+      test-both,
+      test-eq,
+    )
 
 pub is-output-of-spec : {M : Type 1} → statement M
 is-output-of-spec =

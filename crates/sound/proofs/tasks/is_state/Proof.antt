@@ -21,7 +21,18 @@ get-requires-3 c κs = search needs
 
 returns : tie.Need-returns
 returns c =
-    simp (test-not, test-implies, test-both, test-eq, test-le) (cc)
+    simp (
+      c .get3 .ensures,
+      c .before .are-holding .ensures,
+      c .before .before .is-full .ensures,
+      c .before .before .before .get2 .ensures,
+      c .before .before .before .before .get .ensures,
+      test-not,
+      test-implies,
+      test-both,
+      test-eq,
+      test-le,
+    )
 
 pub is-state-spec : {M : Type 1} → statement M
 is-state-spec =

@@ -24,7 +24,16 @@ task-part-requires c κs = search needs
 
 returns : tie.Need-returns
 returns c =
-    simp (test-both, test-eq) (cc)
+    simp (
+      c .task-part .ensures,
+      c .before .template-part .ensures,
+      c .before .before .of-object .ensures,
+      c .before .before .before .are-no-slots .ensures,
+      c .before .before .before .before .block-part .ensures,
+      c .before .before .before .before .before .event-part .ensures,
+      test-both,
+      test-eq,
+    )
 
 pub is-empty-spec : {M : Type 1} → statement M
 is-empty-spec =

@@ -18,7 +18,14 @@ of-link-requires-4 c κs = search needs
 
 returns : tie.Need-returns
 returns c =
-    simp (test-both, test-eq) (cc)
+    simp (
+      c .of-link4 .ensures,
+      c .before .of-link3 .ensures,
+      c .before .before .of-link2 .ensures,
+      c .before .before .before .of-link .ensures,
+      test-both,
+      test-eq,
+    )
 
 pub is-no-link-spec : {M : Type 1} → statement M
 is-no-link-spec =

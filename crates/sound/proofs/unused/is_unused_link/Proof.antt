@@ -11,7 +11,7 @@ is-no-link-requires : tie.Need-is-no-link-requires
 is-no-link-requires c κs = search needs
 
 returns : tie.Need-returns
-returns c = rw (c .is-no-link .ensures, c .before .get .ensures) (simp (test-implies, test-lt))
+returns c = simp (c .is-no-link .ensures, c .before .get .ensures, test-implies, test-lt)
 
 pub is-unused-link-spec : {M : Type 1} → statement M
 is-unused-link-spec = tie.close (tie.spec get-requires is-no-link-requires returns)
