@@ -1,4 +1,3 @@
-pub mod Puts
 pub mod OpenLinks
 pub mod FirstValues
 pub mod Satisfying

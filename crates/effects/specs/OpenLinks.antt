@@ -9,7 +9,7 @@ use Rattle.session.specs.Names.{fired, linkOpen, ready}
 use Rattle.rules.specs.Formula.{Formula, holds, choose, Formula._≐_, Formula._and_, Formula.some}
 use Rattle.rules.specs.FormulaLaws.{choose-yes, choose-no}
 use Rattle.rules.specs.Effects.{fire, fireOne}
-use Rattle.effects.specs.Puts.{put-same, change-one, sweep-skip}
+use Rattle.laws.specs.Puts.{put-same, change-one, sweep-skip}
 
 -- the state of link l once the open links of event e have the state v
 unfoldable pub linkSet : Session → ℕ → ℕ → ℕ → ℕ

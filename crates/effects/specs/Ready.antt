@@ -1,65 +1,50 @@
 -- What a sound session and an operation's checks give the functions that write: places that there are, and ranges.
 use Prim.Native.Nat.{ℕ, _+_, _≤_, _<_}
 use mathlib.Core.Path.{_≡_}
-use mathlib.Core.List.{List, [], _∷_}
+use mathlib.Core.List.{List}
 use mathlib.Core.Logic.{_⊎_, inl, inr}
 use native.Mathlib.Omega.{arith}
 use native.Mathlib.Decide.{decLt}
 use Rattle.session.specs.Table.{Session, read}
 use Rattle.session.specs.declared.Field.the-variants.{Links, Kind, EventType, EventTally, LinkSource, LinkTarget, LinkSlot}
 use Rattle.session.specs.declared.Field.the-variants.{LinkState}
-use Rattle.session.specs.Names.{mostObjects, task, event, latch, delivered, objectPlaces, linkPlaces}
+use Rattle.session.specs.Names.{task, event, latch, delivered, objectPlaces, linkPlaces}
 use Rattle.session.specs.TableLaws.{read-past}
 use Rattle.rules.specs.Formula.{holds, Formula._≐_, Formula._or_}
 use Rattle.rules.specs.FormulaLaws.{Case, decide, Case.it-does, Case.it-does-not}
 use Rattle.rules.specs.Reading.{made, isKind, isUserEvent, hasSlot, overflows}
-use Rattle.rules.specs.Checks.{orNull, dependenceChecks, satisfyChecks, deliverChecks}
+use Rattle.rules.specs.Checks.{dependenceChecks, satisfyChecks, deliverChecks}
 use Rattle.rules.specs.Sound.{sound}
 use Rattle.rules.specs.Effects.{drops}
 use Rattle.laws.specs.Met.{met, by-number}
 use Rattle.laws.specs.Counting.{count-most}
 use Rattle.laws.specs.Frame.{AllOf}
-use Rattle.laws.specs.Rows.Name.{counts, taskParts, eventParts, links, dropped, freeLinks, settled}
-use Rattle.laws.specs.Keeping.{But}
+use Rattle.laws.specs.Rows.Name.{counts, taskParts, eventParts, links, dropped, freeLinks}
+use Rattle.laws.specs.Keeping.{Sound}
 use Rattle.laws.specs.ByName.{sound-by-name}
 use Rattle.laws.specs.Conjuncts.{no-link, event-row, event-by-name, Event.tally-high}
 use Rattle.laws.specs.Conjuncts.Linked.{source-made, target-made, target-kind, has-slot}
 use Rattle.laws.specs.SlotPlaces.{part-slots, low-slot}
-use Rattle.laws.specs.Standing.{made-low, link-at}
+use Rattle.laws.specs.Standing.{made-low, handle-made, handle-or-null, link-at}
 use Rattle.effects.specs.OpenLinks.{NoMoreLinks}
 use Rattle.effects.specs.Satisfying.{Firable, Countable, Triggerable, Satisfiable}
 use Rattle.effects.specs.Linking.{Dependable}
 use Rattle.effects.specs.Delivering.{Deliverable}
-
--- a sound session, by its rules
-abbrev pub Ground : Session → Type 0
-Ground s = But (settled ∷ []) s
-
-pub ground : (s : Session) → holds (sound s) → Ground s
-ground = sound-by-name
 
 -- no link stands past the count
 pub no-more-links : (ws : List ℕ) → holds (sound (read ws)) → NoMoreLinks (read ws)
 no-more-links ws h l m = go (decLt l linkPlaces)
   where
     go : Dec (l < linkPlaces) → read ws LinkState l ≡ 0
-    go (yes b) = no-link (read ws) l (ground (read ws) h freeLinks .1 l b (omega arith)) .no-state
+    go (yes b) = no-link (read ws) l (sound-by-name (read ws) h freeLinks .1 l b (omega arith)) .no-state
     go (no f) = read-past ws LinkState l (omega arith)
-
--- a handle that was made, or null, has a place
-pub handle-made : (s : Session) (h : ℕ) → Ground s → holds (made s h) → h ≤ mostObjects
-handle-made s h g m = let c = g counts .1 .0 in omega arith
-
-pub handle-or-null : (s : Session) (h : ℕ) → Ground s → holds (orNull s (made s) h) → h ≤ mostObjects
-handle-or-null s h g (inl z) = omega arith
-handle-or-null s h g (inr m) = handle-made s h g m
 
 -- what is a task or an event, and is no task
 task-or-event : (s : Session) (d : ℕ) → holds (isKind s task d or isUserEvent s d) → (s Kind d ≡ task → ⊥) → s Kind d ≡ event
 task-or-event s d (inl x) n = absurd (n x)
 task-or-event s d (inr x) n = x .0
 
-module _ (s : Session) (g : Ground s) (n : NoMoreLinks s) (d j : ℕ) (m : holds (made s d)) where
+module _ (s : Session) (g : Sound s) (n : NoMoreLinks s) (d j : ℕ) (m : holds (made s d)) where
   firable : Firable s d
   firable = record { handle = handle-made s d g m; links = g counts .1 .1; no-more = n }
 
@@ -99,14 +84,14 @@ pub satisfy-ready : (ws : List ℕ) (caller e b j : ℕ) → holds (sound (read 
 satisfy-ready ws caller e b j h m =
     let s = read ws in
     let c = by-number (satisfyChecks s caller e b j) m in
-    triggerable s (ground s h) (no-more-links ws h) e j (c 9 .0) (c 10 .0 .0) (c 19)
+    triggerable s (sound-by-name s h) (no-more-links ws h) e j (c 9 .0) (c 10 .0 .0) (c 19)
 
 -- operation 5
 pub dependence-ready : (ws : List ℕ) (caller source d j mode : ℕ) → holds (sound (read ws))
     → met (dependenceChecks (read ws) caller source d j mode) → Dependable (read ws) source d j
 dependence-ready ws caller source d j mode h m =
     let s = read ws in
-    let g = ground s h in
+    let g = sound-by-name s h in
     let c = by-number (dependenceChecks s caller source d j mode) m in
     record {
       from = handle-or-null s source g (c 9 .0);
@@ -126,7 +111,7 @@ pub deliver-ready : (ws : List ℕ) (l : ℕ) → holds (sound (read ws)) → me
 unfolding drops
 deliver-ready ws l h m =
     let s = read ws in
-    let g = ground s h in
+    let g = sound-by-name s h in
     let n = no-more-links ws h in
     let x = link-at s l (g links) (m .0) in
     let d = s LinkTarget l in

@@ -11,7 +11,7 @@ use Rattle.rules.specs.Formula.{choose, test, Formula._≐_}
 use Rattle.rules.specs.FormulaLaws.{choose-yes, choose-no}
 use Rattle.rules.specs.Sound.{full}
 use Rattle.rules.specs.Effects.{fireOne, satisfySlot, tally, satisfyEvent}
-use Rattle.effects.specs.Puts.{put-same}
+use Rattle.laws.specs.Puts.{put-same}
 use Rattle.effects.specs.OpenLinks.{NoMoreLinks}
 
 -- event e has a place, and so have the links

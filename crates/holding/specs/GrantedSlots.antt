@@ -9,7 +9,7 @@ use Rattle.session.specs.Names.{held, granted}
 use Rattle.rules.specs.Formula.{choose, Formula._≐_, Formula._≼_, Formula._and_}
 use Rattle.rules.specs.FormulaLaws.{choose-yes, choose-no}
 use Rattle.rules.specs.Effects.{grant}
-use Rattle.effects.specs.Puts.{put-same}
+use Rattle.laws.specs.Puts.{put-same}
 use Rattle.holding.specs.SweepRows.{row, rows, own-end}
 
 unfoldable pub grantRow : ℕ → ℕ → (Field → ℕ) → ℕ

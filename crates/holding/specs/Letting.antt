@@ -15,7 +15,7 @@ use Rattle.rules.specs.Effects.{letGo, buryDoomed, release}
 use Rattle.laws.specs.Places.{put-there}
 use Rattle.laws.specs.LettingGo.{was-held}
 use Rattle.reading.specs.Holds.{Active}
-use Rattle.effects.specs.Puts.{put-same}
+use Rattle.laws.specs.Puts.{put-same}
 use Rattle.holding.specs.SweepRows.{row, rows, own-end, change-same, change-at}
 
 -- the blocks to let go of: one, or all of them where it is 0

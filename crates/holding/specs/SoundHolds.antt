@@ -1,7 +1,7 @@
 -- What a sound session says of its places past the count of objects, and of who holds blocks.
 use Prim.Native.Nat.{ℕ, _+_, _<_}
 use mathlib.Core.Path.{_≡_}
-use mathlib.Core.List.{List, [], _∷_}
+use mathlib.Core.List.{List}
 use mathlib.Core.Logic.{inl, inr}
 use native.Mathlib.Omega.{arith}
 use native.Mathlib.Decide.{decLt}
@@ -12,8 +12,8 @@ use Rattle.session.specs.TableLaws.{read-past}
 use Rattle.rules.specs.Formula.{holds}
 use Rattle.rules.specs.Reading.{isHeld}
 use Rattle.rules.specs.Sound.{sound, slot, blockPart}
-use Rattle.laws.specs.Rows.Name.{counts, kinds, blockParts, slots, states, blocks, settled}
-use Rattle.laws.specs.Keeping.{But}
+use Rattle.laws.specs.Rows.Name.{counts, kinds, blockParts, slots, states, blocks}
+use Rattle.laws.specs.Keeping.{Sound}
 use Rattle.laws.specs.ByName.{sound-by-name}
 use Rattle.laws.specs.Conjuncts.{state-by-name, State.slot-holds}
 use Rattle.reading.specs.Holders.{isHolder}
@@ -24,7 +24,7 @@ module _ (ws : List ℕ) (good : holds (sound (read ws))) where
   abbrev s : Session
   s = read ws
 
-  r : But (settled ∷ []) (read ws)
+  r : Sound (read ws)
   r = sound-by-name (read ws) good
 
   -- no object past the count has a kind

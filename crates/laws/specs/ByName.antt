@@ -11,7 +11,7 @@ use Rattle.laws.specs.Rows.{Name, says}
 use Rattle.laws.specs.Rows.Name.{counts, kinds, templateParts, taskParts, eventParts, blockParts, roots, creators}
 use Rattle.laws.specs.Rows.Name.{outputs, slots, links, oneLink, states, blocks, compatible, latches, dropped, freeSlots}
 use Rattle.laws.specs.Rows.Name.{freeLinks, settled}
-use Rattle.laws.specs.Keeping.{But, but, all, Excepted, Kept}
+use Rattle.laws.specs.Keeping.{but, all, Excepted, Kept, Sound}
 
 -- the rules of `sound` by their names in Sound
 pub record Rules (s : Session) : Type 0 where
@@ -47,10 +47,10 @@ sound-from s r = (
   r .unused,
 )
 
-pub sound-by-name : (s : Session) → holds (sound s) → But (settled ∷ []) s
+pub sound-by-name : (s : Session) → holds (sound s) → Sound s
 sound-by-name s h = named (rules-of s h)
   where
-    named : Rules s → But (settled ∷ []) s
+    named : Rules s → Sound s
     named r counts = r .counts
     named r kinds = kinds-of s (r .objects) (r .unused)
     named r templateParts = templateParts-of s (r .objects) (r .unused)
@@ -72,7 +72,7 @@ sound-by-name s h = named (rules-of s h)
     named r freeLinks = freeLinks-of s (r .objects) (r .unused)
     named r settled = tt
 
-pub sound-of : (s : Session) → But (settled ∷ []) s → holds (sound s)
+pub sound-of : (s : Session) → Sound s → holds (sound s)
 sound-of s h =
     sound-from s (record {
       counts = h counts;

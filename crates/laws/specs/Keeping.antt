@@ -8,6 +8,7 @@ use Rattle.rules.specs.Formula.{holds}
 use Rattle.laws.specs.Outside.{Outside}
 use Rattle.laws.specs.Frame.{meets, Shown, Shown.due, row-lasts}
 use Rattle.laws.specs.Rows.{Name, row, says, same-name}
+use Rattle.laws.specs.Rows.Name.{settled}
 
 abbrev pub excepted : Name → List Name → Bool
 excepted n [] = false
@@ -20,6 +21,10 @@ But xs s = (n : Name) → pick (excepted n xs) (Unit {0}) (holds (says n s))
 -- all rules: a kept session
 abbrev pub Kept : Session → Type 0
 Kept s = But [] s
+
+-- all but `settled`, which `kept` adds: a sound session
+abbrev pub Sound : Session → Type 0
+Sound s = But (settled ∷ []) s
 
 -- the rules that an operation shows: they read a field that it writes, and are none of the excepted
 abbrev pub Due : List Field → List Name → Name → Type 0

@@ -2,7 +2,6 @@
 use Prim.Native.Nat.{ℕ, _+_, _/_, _≤_}
 use mathlib.Core.Path.{_≡_, refl}
 use mathlib.Core.Logic.{inl, inr}
-use mathlib.Core.List.{[], _∷_}
 use native.Mathlib.Omega.{arith}
 use Rattle.session.specs.Table.{Session, put, change}
 use Rattle.session.specs.declared.Field.the-variants.{Dropped, Kind, TemplateState, TaskState, TaskFinish, TaskOutput, EventState}
@@ -20,18 +19,14 @@ use Rattle.rules.specs.Effects.{destroyEvent, destroyTask, destroyBlock, destro
 use Rattle.laws.specs.Met.{Checked}
 use Rattle.laws.specs.SlotPlaces.{task-slot}
 use Rattle.laws.specs.Frame.{AllOf}
-use Rattle.laws.specs.Rows.Name.{counts, taskParts, eventParts, blockParts, outputs, slots, links, states, settled}
-use Rattle.laws.specs.Keeping.{But}
+use Rattle.laws.specs.Rows.Name.{counts, taskParts, eventParts, blockParts, outputs, slots, links, states}
+use Rattle.laws.specs.Keeping.{Sound}
 use Rattle.laws.specs.Conjuncts.{link-row, Linked.target-made, Linked.target-kind, Linked.has-slot}
 use Rattle.laws.specs.Standing.{open-unless, open-latch, open-output, output-stands, waits, slot-of, unclaimed-mark}
 use Rattle.laws.specs.Standing.{awaited-mark, link-at, block-stands}
 use Rattle.laws.specs.Lasting.{Lasts, Later, later-same, later-put, later-change}
 use Rattle.laws.specs.LastingEffects.{later-fireOne, later-fireFinished, later-destroyEvent, later-letGo, later-satisfySlot}
 use Rattle.laws.specs.LastingEffects.{later-satisfyEvent, later-newLink}
-
--- a sound session, by its rules
-abbrev Ground : Session → Type 0
-Ground s = But (settled ∷ []) s
 
 -- what a destination has to be for a satisfaction of its slot j: a waiting task with that slot unsatisfied, or an event
 -- that is open, or has fired and is no latch
@@ -41,7 +36,7 @@ Takes r d j =
     × ((r Kind d ≡ task → ⊥) → (r EventType d ≡ latch → r EventState d ≡ eventOpen) ×
     ((r EventState d ≡ fired → ⊥) → r EventState d ≡ eventOpen))
 
-takes : (s : Session) (d j : ℕ) → Ground s → holds (made s d) → holds (isKind s task d or isUserEvent s d)
+takes : (s : Session) (d j : ℕ) → Sound s → holds (made s d) → holds (isKind s task d or isUserEvent s d)
     → (holds (isGone s d) → ⊥)
     → holds (hasSlot s d j) → (s Kind d ≡ task → s SlotMark (at d j) ≡ 0) → Takes s d j
 takes s d j g m k there slot empty = (
@@ -63,7 +58,7 @@ later-satisfy {s} {r} d j p x t =
     (λ k. later-satisfySlot d j p x (t .0 k .0) (t .0 k .1)) (λ k. later-satisfyEvent d j p x (t .1 k .0) (t .1 k .1))
 
 -- operation 5
-module _ (s : Session) (g : Ground s) (caller source d j mode : ℕ) (m : Checked (dependenceChecks s caller source d j mode)) where
+module _ (s : Session) (g : Sound s) (caller source d j mode : ℕ) (m : Checked (dependenceChecks s caller source d j mode)) where
   fits : Takes s d j
   fits =
       let there = m 11 .1 in
@@ -88,7 +83,7 @@ module _ (s : Session) (g : Ground s) (caller source d j mode : ℕ) (m : Checke
       (λ k. from s (later-same s) fits)
 
 -- operation 6
-pub later-satisfaction : (s : Session) → Ground s → (caller e b j : ℕ) → Checked (satisfyChecks s caller e b j)
+pub later-satisfaction : (s : Session) → Sound s → (caller e b j : ℕ) → Checked (satisfyChecks s caller e b j)
     → Later s (satisfyEvent s e j b)
 later-satisfaction s g caller e b j m =
     let named = m 9 .0 in
@@ -103,7 +98,7 @@ unfolding release
 later-release s caller b = later-letGo caller (λ k. k ≐ b) (later-same s)
 
 -- operation 8
-module _ (s : Session) (g : Ground s) (caller h : ℕ) (m : Checked (destroyChecks s caller h)) where
+module _ (s : Session) (g : Sound s) (caller h : ℕ) (m : Checked (destroyChecks s caller h)) where
   named : holds (made s h)
   named = m 9
 
@@ -151,7 +146,7 @@ module _ (s : Session) (g : Ground s) (caller h : ℕ) (m : Checked (destroyChec
       (λ k. later-destroyEvent h (later-same s) (event-stands k)) (λ k. later-destroyBlock)))
 
 -- operation 9
-module _ (s : Session) (g : Ground s) (l : ℕ) (m : Checked (deliverChecks s l)) where
+module _ (s : Session) (g : Sound s) (l : ℕ) (m : Checked (deliverChecks s l)) where
   is-ready : s LinkState l ≡ ready
   is-ready = m 16
 
@@ -198,7 +193,7 @@ pub later-start : (s : Session) (t : ℕ) → Checked (startChecks s t) → Late
 unfolding start
 later-start s t m = let q : s TaskState t ≡ granted = m 16 in later-put TaskState t running (later-same s) (λ l. omega arith)
 
-pub later-end : (s : Session) → Ground s → (t b : ℕ) → Checked (endChecks s t b) → Later s (end s t b)
+pub later-end : (s : Session) → Sound s → (t b : ℕ) → Checked (endChecks s t b) → Later s (end s t b)
 unfolding end letGo buryDoomed put change
 later-end s g t b m =
     let q : s TaskState t ≡ running = m 16 in

@@ -1,5 +1,6 @@
 -- The rules of a kept session by name, the fields that each reads, and what each effect writes
 pub mod Places
+pub mod Puts
 pub mod SlotPlaces
 pub mod Tables
 pub mod Outside

@@ -19,8 +19,7 @@ use Rattle.laws.specs.SlotPlaces.{place-split, place-low}
 use Rattle.laws.specs.Shape.{Sort, None, fieldsOf}
 use Rattle.laws.specs.Shape.Sort.{a-template, a-task, an-event, a-block}
 use Rattle.laws.specs.Rows.Name.{counts, kinds, templateParts, taskParts, eventParts, blockParts, freeSlots, freeLinks}
-use Rattle.laws.specs.Rows.Name.{settled}
-use Rattle.laws.specs.Keeping.{But}
+use Rattle.laws.specs.Keeping.{Sound}
 use Rattle.laws.specs.ByName.{sound-by-name}
 use Rattle.laws.specs.Conjuncts.{no-link}
 use Rattle.laws.specs.Grown.{Blank, blank}
@@ -39,7 +38,7 @@ nothing s h (f ∷ fs) n = n f (rw (same-refl f) refl) also nothing s h fs (λ g
     either true = refl
     either false = refl
 
-module _ (s : Session) (r : But (settled ∷ []) s) where
+module _ (s : Session) (r : Sound s) where
   past-handle : (i : ℕ) → s Objects 0 + 1 ≤ i → i < objectPlaces → Blank s i
   past-handle i h =
       blank s (r kinds) (r templateParts) (r taskParts) (r eventParts) (r blockParts) (r freeSlots) i (omega arith)
@@ -81,7 +80,7 @@ unfolding Tidy
 sound-tidy ws h f =
     (more-places (omega (arith, r counts .1 .0)) (omega (arith, r counts .1 .1)) (class f), λ i l. go i l (decLt i (size f)))
   where
-    r : But (settled ∷ []) (read ws)
+    r : Sound (read ws)
     r = sound-by-name (read ws) h
 
     go : (i : ℕ) → used (read ws) f ≤ i → Dec (i < size f) → read ws f i ≡ 0

@@ -8,15 +8,17 @@ use Rattle.session.specs.Table.{Session}
 use Rattle.session.specs.declared.Field.the-variants.{Links, Kind, TaskState, TaskSlots, TaskOutput, EventState, EventType}
 use Rattle.session.specs.declared.Field.the-variants.{BlockState, SlotMode, SlotMark, LinkState}
 use Rattle.session.specs.Names.{task, event, waiting, resolved, running, ended, taskDestroyed, eventOpen, fired, destroyedUnfired}
-use Rattle.session.specs.Names.{objectPlaces}
+use Rattle.session.specs.Names.{mostObjects, objectPlaces}
 use Rattle.session.specs.Names.{destroyedFired, doomed, delivered, latch}
 use Rattle.rules.specs.Formula.{holds, Formula._≼_}
 use Rattle.rules.specs.EventTypeLaws.{latch-gone}
 use Rattle.rules.specs.FormulaLaws.{Case, decide, Case.it-does, Case.it-does-not}
 use Rattle.rules.specs.Reading.{at, made, isGone, hasSlot}
+use Rattle.rules.specs.Checks.{orNull}
 use Rattle.rules.specs.Sound.{blockPart, slot, noSlot, claimed, leadsTo, isLink}
 use Rattle.laws.specs.Frame.{AllOf}
 use Rattle.laws.specs.Rows.{says}
+use Rattle.laws.specs.Keeping.{Sound}
 use Rattle.laws.specs.Rows.Name.{counts, taskParts, eventParts, blockParts, outputs, slots, links, states}
 use Rattle.laws.specs.Conjuncts.{claimed-says, claimed-by-name, Claimed.mode-low, Claimed.waits as awaits}
 use Rattle.laws.specs.Conjuncts.{slot-place, link-row, link-by-name}
@@ -29,6 +31,14 @@ use Rattle.laws.specs.SlotPlaces.{low-slot}
 -- an object has a place
 pub made-low : (s : Session) (h : ℕ) → holds (says counts s) → holds (made s h) → h < objectPlaces
 made-low s h c m = omega arith
+
+-- so has a handle that was made, or null, by the rules of a sound session
+pub handle-made : (s : Session) (h : ℕ) → Sound s → holds (made s h) → h ≤ mostObjects
+handle-made s h g m = let c = g counts .1 .0 in omega arith
+
+pub handle-or-null : (s : Session) (h : ℕ) → Sound s → holds (orNull s (made s) h) → h ≤ mostObjects
+handle-or-null s h g (inl z) = omega arith
+handle-or-null s h g (inr m) = handle-made s h g m
 
 -- an event that is not gone and has not fired is open
 pub open-unless : (s : Session) (e : ℕ) → holds (says counts s) → holds (says eventParts s) → holds (made s e)

@@ -17,7 +17,7 @@ use Rattle.rules.specs.Reading.{isKind}
 use Rattle.rules.specs.Effects.{finishes, fire, fireOne, fireFinished}
 use Rattle.rules.specs.Descendants.{busy}
 use Rattle.laws.specs.Conjuncts.{Finishes, finishes-by-name, finishes-of}
-use Rattle.effects.specs.Puts.{put-same}
+use Rattle.laws.specs.Puts.{put-same}
 use Rattle.effects.specs.OpenLinks.{NoMoreLinks}
 use Rattle.holding.specs.SweepRows.{row, rows, change-same, change-idle}
 use Rattle.retiring.specs.TidyUnderWay.{Tidy}

@@ -1,7 +1,7 @@
 -- The parts that a destroying and an end are made of.
 use Prim.Native.Nat.{ℕ, _+_, _≤_, _<_}
 use mathlib.Core.Path.{_≡_, refl, _∙_}
-use mathlib.Core.List.{List, [], _∷_}
+use mathlib.Core.List.{List}
 use mathlib.Core.Logic.{inl, inr}
 use native.Mathlib.Omega.{arith}
 use Rattle.session.specs.Table.{Session, read, put, change}
@@ -13,13 +13,13 @@ use Rattle.rules.specs.FormulaLaws.{choose-yes, choose-no, choose-case}
 use Rattle.rules.specs.Reading.{made, isHeld}
 use Rattle.rules.specs.Sound.{sound, taskPart}
 use Rattle.rules.specs.Sound as rule
-use Rattle.laws.specs.Rows.Name.{counts, taskParts, outputs, settled}
-use Rattle.laws.specs.Keeping.{But}
+use Rattle.laws.specs.Rows.Name.{counts, taskParts, outputs}
+use Rattle.laws.specs.Keeping.{Sound}
 use Rattle.laws.specs.ByName.{sound-by-name}
 use Rattle.laws.specs.Conjuncts.{no-task as fields-of-none, output-by-name, Output.output-made}
 use Rattle.rules.specs.Effects.{letGo, buryDoomed, release, fireOne, fireFinished, destroyEvent, destroyTask, destroyBlock}
 use Rattle.rules.specs.Effects.{destroy, end}
-use Rattle.effects.specs.Ready.{ground, handle-made}
+use Rattle.laws.specs.Standing.{handle-made}
 use Rattle.retiring.specs.TidyUnderWay.{Tidy, tidy, tidy-state, tidy-letGo, tidy-fireOne, tidy-destroyEvent}
 
 -- a task's output event is destroyed
@@ -133,7 +133,7 @@ module _ (s : Session) (t h : ℕ) where
 output-low : (s : Session) → holds (sound s) → (h : ℕ) → holds (made s h) → OutputLow s h
 output-low s x h m e = go (r taskParts h (omega (arith, r counts .1 .0)))
   where
-    r : But (settled ∷ []) s
+    r : Sound s
     r = sound-by-name s x
 
     go : holds (taskPart s h) → h < mostObjects
@@ -154,7 +154,7 @@ pub retirable : (ws : List ℕ) (h : ℕ) → holds (sound (read ws)) → holds 
 retirable ws h good m =
     let s = read ws in
     record {
-      handle = handle-made s h (ground s good) m;
+      handle = handle-made s h (sound-by-name s good) m;
       tidy = tidy ws good;
       low = output-low s good h m;
       outputs = sound-by-name s good outputs;

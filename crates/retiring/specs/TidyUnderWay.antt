@@ -2,7 +2,7 @@
 -- way: the fields that it speaks of are not written, or are written so that it still holds.
 use Prim.Native.Nat.{ℕ, _≤_, _<_}
 use mathlib.Core.Path.{_≡_, sym, _∙_}
-use mathlib.Core.List.{List, [], _∷_}
+use mathlib.Core.List.{List}
 use mathlib.Core.Logic.{_⊎_, inl, inr}
 use native.Mathlib.Omega.{arith}
 use native.Mathlib.Decide.{decLt}
@@ -16,8 +16,8 @@ use Rattle.rules.specs.FormulaLaws.{Case, decide, choose-yes, choose-no, Case.i
 use Rattle.rules.specs.Effects.{letGo, buryDoomed, fire, fireOne, destroyEvent}
 use Rattle.rules.specs.Sound.{sound, creator, isLink, taskPart}
 use Rattle.laws.specs.Places.{Places, places, put-here, put-there, Places.one, Places.two}
-use Rattle.laws.specs.Rows.Name.{counts, kinds, taskParts, eventParts, roots, creators, links, freeLinks, settled}
-use Rattle.laws.specs.Keeping.{But}
+use Rattle.laws.specs.Rows.Name.{counts, kinds, taskParts, eventParts, roots, creators, links, freeLinks}
+use Rattle.laws.specs.Keeping.{Sound}
 use Rattle.laws.specs.ByName.{sound-by-name}
 use Rattle.laws.specs.Conjuncts.{roots-by-name, event-by-name, Root.main-creator, Event.paid}
 use Rattle.laws.specs.Under.{creators-fall}
@@ -51,7 +51,7 @@ module _ (ws : List ℕ) (good : holds (sound (read ws))) where
   abbrev s : Session
   s = read ws
 
-  r : But (settled ∷ []) (read ws)
+  r : Sound (read ws)
   r = sound-by-name (read ws) good
 
   source-made : (l : ℕ) → l ≤ s Links 0 → s LinkSource l ≤ mostObjects

@@ -9,7 +9,7 @@ use Rattle.session.specs.declared.Field.the-variants.{Dropped, LinkTarget, Link
 use Rattle.rules.specs.Formula.{test}
 use Rattle.rules.specs.FormulaLaws.{choose-yes, choose-no, passed, failed}
 use Rattle.rules.specs.Effects.{drops, satisfy, deliver}
-use Rattle.effects.specs.Puts.{wrote-next}
+use Rattle.laws.specs.Puts.{wrote-next}
 use Rattle.effects.specs.Ready.{deliver-ready}
 use Rattle.effects.specs.Delivering.{delivered-satisfiable}
 use borrow.Author.Needs.{needs}

@@ -5,7 +5,7 @@ use Rattle.session.specs.TableLaws.{wrote-more, wrote-none}
 use Rattle.session.specs.Names.{fired, ready}
 use Rattle.session.specs.declared.Field.the-variants.{EventState, EventPayload}
 use Rattle.effects.specs.OpenLinks.{openLinksSet, fireOne-words}
-use Rattle.effects.specs.Puts.{wrote-next}
+use Rattle.laws.specs.Puts.{wrote-next}
 use borrow.Author.Needs.{needs}
 use Rattle.effects.proofs.firing.fire_one.Statement.{statement}
 use Rattle.effects.proofs.firing.fire_one.Tie as tie

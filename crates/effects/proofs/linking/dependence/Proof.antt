@@ -7,7 +7,7 @@ use native.Mathlib.Omega.{arith}
 use Rattle.effects.specs.Made.{linkMade}
 use Rattle.effects.specs.Ready.{dependence-ready}
 use Rattle.effects.specs.Linking.{claim-links, claim-satisfiable}
-use Rattle.effects.specs.Puts.{wrote-next}
+use Rattle.laws.specs.Puts.{wrote-next}
 use borrow.Author.Needs.{needs}
 use Rattle.effects.proofs.linking.dependence.Statement.{statement}
 use Rattle.effects.proofs.linking.dependence.Tie as tie

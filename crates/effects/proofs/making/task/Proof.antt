@@ -3,7 +3,7 @@
 use Prim.Native.Nat.{_+_}
 use Rattle.rules.specs.FormulaLaws.{choose-yes, choose-no}
 use Rattle.rules.specs.Effects.{newEvent, makeTask}
-use Rattle.effects.specs.Puts.{wrote-next}
+use Rattle.laws.specs.Puts.{wrote-next}
 use Rattle.session.specs.Names.{output}
 use borrow.Author.Needs.{needs}
 use Rattle.effects.proofs.making.task.Statement.{statement}

@@ -4,7 +4,7 @@ use Rattle.session.specs.Table.{put}
 use Rattle.rules.specs.FormulaLaws.{choose-yes, choose-no}
 use Rattle.rules.specs.Effects.{fireOne, tally}
 use Rattle.effects.specs.Satisfying.{nextTally}
-use Rattle.effects.specs.Puts.{wrote-next}
+use Rattle.laws.specs.Puts.{wrote-next}
 use borrow.Author.Needs.{needs}
 use Rattle.effects.proofs.satisfying.tally.Statement.{statement}
 use Rattle.effects.proofs.satisfying.tally.Tie as tie

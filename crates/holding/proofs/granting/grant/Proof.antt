@@ -5,8 +5,9 @@ use Rattle.session.specs.Table.{read, put}
 use Rattle.session.specs.Names.{granted}
 use Rattle.session.specs.declared.Field.the-variants.{TaskState}
 use native.Mathlib.Omega.{arith}
-use Rattle.effects.specs.Ready.{ground, handle-made}
-use Rattle.effects.specs.Puts.{wrote-next}
+use Rattle.laws.specs.ByName.{sound-by-name}
+use Rattle.laws.specs.Standing.{handle-made}
+use Rattle.laws.specs.Puts.{wrote-next}
 use Rattle.holding.specs.GrantedSlots.{grant-slots}
 use borrow.Author.Needs.{needs}
 use Rattle.holding.proofs.granting.grant.Statement.{statement}
@@ -16,14 +17,14 @@ hold-slots-requires : tie.Need-hold-slots-requires
 hold-slots-requires c κs =
     let x = c .before .before in
     let s = read (now (x .args .s)) in
-    (x .pre .0, handle-made s (x .args .t) (ground s (x .pre .1)) (x .pre .2 .0))
+    (x .pre .0, handle-made s (x .args .t) (sound-by-name s (x .pre .1)) (x .pre .2 .0))
 
 set-requires : tie.Need-set-requires
 set-requires c κs =
     let f = c .before .before .before in
     let x = f .before .before .before in
     let s = read (now (x .args .s)) in
-    let l = handle-made s (x .args .t) (ground s (x .pre .1)) (x .pre .2 .0) in
+    let l = handle-made s (x .args .t) (sound-by-name s (x .pre .1)) (x .pre .2 .0) in
     omega (arith, l, x .pre .0, f .hold-slots .ensures .same-length)
 
 same-length : tie.Need-same-length

@@ -3,7 +3,8 @@ use native.Mathlib.Omega.{arith}
 use denote.Ref.{now}
 use Rattle.session.specs.Table.{read}
 use Rattle.rules.specs.Effects.{start}
-use Rattle.effects.specs.Ready.{ground, handle-made}
+use Rattle.laws.specs.ByName.{sound-by-name}
+use Rattle.laws.specs.Standing.{handle-made}
 use borrow.Author.Needs.{needs}
 use Rattle.holding.proofs.granting.start.Statement.{statement}
 use Rattle.holding.proofs.granting.start.Tie as tie
@@ -12,7 +13,7 @@ set-requires : tie.Need-set-requires
 set-requires c κs =
     let x = c .before .before in
     let s = read (now (x .args .s)) in
-    let l = handle-made s (x .args .t) (ground s (x .pre .1)) (x .pre .2 .0) in
+    let l = handle-made s (x .args .t) (sound-by-name s (x .pre .1)) (x .pre .2 .0) in
     omega (arith, l, x .pre .0)
 
 same-length : tie.Need-same-length

@@ -4,7 +4,7 @@ use native.Mathlib.Omega.{arith}
 use denote.Ref.{now}
 use Rattle.session.specs.Table.{read}
 use Rattle.rules.specs.Effects.{buryDoomed}
-use Rattle.effects.specs.Puts.{wrote-next}
+use Rattle.laws.specs.Puts.{wrote-next}
 use Rattle.holding.specs.Letting.{madeLetGo, after-slots, after-made, active-made, letGo-all}
 use borrow.Author.Needs.{needs}
 use Rattle.holding.proofs.letting.let_go_all.Statement.{statement}

@@ -5,7 +5,7 @@ use denote.Ref.{now}
 use Rattle.session.specs.Table.{read, put}
 use Rattle.session.specs.declared.Field.the-variants.{BlockHeld, BlockState}
 use Rattle.rules.specs.Effects.{release}
-use Rattle.effects.specs.Puts.{wrote-next}
+use Rattle.laws.specs.Puts.{wrote-next}
 use Rattle.holding.specs.SweepRows.{row}
 use Rattle.holding.specs.Letting.{madeRow, buried, after-one, active-one, letGo-one}
 use borrow.Author.Needs.{needs}

@@ -1,6 +1,6 @@
 -- `holding::letting::release` meets its contract: what `let_go_block` requires follows from the sound session (`doomed-held`,
 -- `active`) and the checks (`handle-made`), and the rest is its own.
-use Rattle.effects.specs.Ready.{ground, handle-made}
+use Rattle.laws.specs.Standing.{handle-made}
 use Rattle.holding.specs.SoundHolds.{doomed-held, active}
 use Rattle.laws.specs.Rows.Name.{counts}
 use Rattle.laws.specs.ByName.{sound-by-name}
@@ -18,10 +18,10 @@ let-go-block-requires c κs =
     let m = x .pre .2 in (
       x .pre .0,
       sound-by-name (read ws) sound counts .1 .0,
-      handle-made (read ws) (x .args .caller) (ground (read ws) sound)
+      handle-made (read ws) (x .args .caller) (sound-by-name (read ws) sound)
           (m .0 .0),
       m .1 .0 .0,
-      handle-made (read ws) (x .args .b) (ground (read ws) sound)
+      handle-made (read ws) (x .args .b) (sound-by-name (read ws) sound)
           (m .1 .0),
       doomed-held ws sound,
       active ws sound,

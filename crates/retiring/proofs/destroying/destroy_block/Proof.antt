@@ -4,7 +4,7 @@ use native.Mathlib.Omega.{arith}
 use denote.Ref.{now}
 use Rattle.session.specs.Table.{read, put}
 use Rattle.session.specs.declared.Field.the-variants.{BlockState}
-use Rattle.effects.specs.Puts.{wrote-next}
+use Rattle.laws.specs.Puts.{wrote-next}
 use Rattle.holding.specs.Letting.{active-release}
 use Rattle.retiring.specs.RetiringParts.{fate, few-release, destroyBlock-parts}
 use borrow.Author.Needs.{needs}

@@ -5,7 +5,7 @@ use native.Mathlib.Omega.{arith}
 use denote.Ref.{now}
 use Rattle.session.specs.Table.{read}
 use Rattle.session.specs.declared.Field.the-variants.{EventState}
-use Rattle.effects.specs.Puts.{wrote-next}
+use Rattle.laws.specs.Puts.{wrote-next}
 use Rattle.retiring.specs.Cutting.{retired, linksCut, after-retire, destroyEvent-cut}
 use borrow.Author.Needs.{needs}
 use Rattle.retiring.proofs.destroying.destroy_event.Statement.{statement}

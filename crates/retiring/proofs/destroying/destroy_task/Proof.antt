@@ -6,7 +6,7 @@ use Rattle.session.specs.Table.{read, put}
 use Rattle.session.specs.Names.{taskDestroyed}
 use Rattle.session.specs.declared.Field.the-variants.{TaskState}
 use Rattle.rules.specs.Effects.{fireFinished}
-use Rattle.effects.specs.Puts.{wrote-next}
+use Rattle.laws.specs.Puts.{wrote-next}
 use Rattle.retiring.specs.TidyUnderWay.{tidy-state}
 use Rattle.retiring.specs.RetiringParts.{outputDestroyed, tidy-outputDestroyed, low-state, destroyTask-parts}
 use Rattle.retiring.specs.Climb.{only-above, own-state, own-destroyed}

@@ -6,7 +6,7 @@ use Rattle.session.specs.Table.{read, put}
 use Rattle.session.specs.Names.{ended}
 use Rattle.session.specs.declared.Field.the-variants.{TaskState}
 use Rattle.rules.specs.Effects.{fireFinished}
-use Rattle.effects.specs.Puts.{wrote-next}
+use Rattle.laws.specs.Puts.{wrote-next}
 use Rattle.holding.specs.SoundHolds.{unheld, unmarked, active}
 use Rattle.retiring.specs.RetiringParts.{retirable, ending, outputFired, tidy-outputFired, tidy-ending, low-ending}
 use Rattle.retiring.specs.RetiringParts.{end-parts}

@@ -3,7 +3,7 @@
 use native.Mathlib.Omega.{arith}
 use denote.Ref.{now}
 use Rattle.session.specs.Table.{read}
-use Rattle.effects.specs.Puts.{wrote-next}
+use Rattle.laws.specs.Puts.{wrote-next}
 use Rattle.retiring.specs.Finish.{linksReady, tidy-fired}
 use borrow.Author.Needs.{needs}
 use Rattle.retiring.proofs.finishing.fire_by_marks.Statement.{statement}
