@@ -158,11 +158,8 @@ def modules():
 
 
 def copy_of_session(folder):
-    """The crate that the definitions stand on, with what was proved of it."""
+    """The crate that the definitions stand on, to be proved in the copy: this runs while `rt ci` empties and fills target/."""
     shutil.copytree(os.path.join(ROOT, 'crates', 'session'), os.path.join(folder, 'crates', 'session'))
-    if os.path.exists(os.path.join(ROOT, 'target', 'stamp', 'session')):
-        shutil.copytree(os.path.join(ROOT, 'target', 'rlib', 'session.rlib'), os.path.join(folder, 'target', 'rlib', 'session.rlib'))
-        write(os.path.join(folder, 'target', 'stamp', 'session'), text_of(os.path.join(ROOT, 'target', 'stamp', 'session')))
 
 
 def copy_of_rules(folder):
