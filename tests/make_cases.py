@@ -132,7 +132,7 @@ def standing():
 
 def main():
     made = dict(files())
-    made['Lib'] = ''.join('pub mod %s\n' % name for name in ['Along', 'Listing'] + list(made))
+    made['Lib'] = ''.join('pub mod %s\n' % name for name in ['Along', 'DocumentListing'] + list(made))
     old = standing()
     changed = [name for name in made if old.get(name) != made[name]] + [name for name in old if name not in made]
     if '--check' in sys.argv:

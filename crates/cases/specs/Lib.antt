@@ -1,5 +1,5 @@
 pub mod Along
-pub mod Listing
+pub mod DocumentListing
 pub mod Answers1
 pub mod Answers2
 pub mod Answers3

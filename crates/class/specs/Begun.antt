@@ -13,7 +13,7 @@ use Rattle.class_rules.specs.Report.{Entry, Class, stopped, followed, met, fits
 use Rattle.class_rules.specs.Report.{lastLine, report}
 use Rattle.class_rules.specs.OnePass.{learnerOf, printed, kept, onePass, kept-learner, one-pass}
 use Rattle.class_rules.specs.Totals.{raisedBy, raised-more, lines-more, sums-totals}
-use Rattle.class.specs.Standing.{endText, sheetText, lengthText, turnText, learnerText, entriesText, countText, reportFrom}
+use Rattle.class.specs.StillPrinted.{endText, sheetText, lengthText, turnText, learnerText, entriesText, countText, reportFrom}
 use Rattle.class.specs.Steps.{begun}
 
 -- The lines of a class by one pass from a pending entry on, and the last line with the sums as a tally has them.

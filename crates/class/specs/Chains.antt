@@ -12,7 +12,7 @@ use Rattle.class.specs.declared.Stage.the-variants.{Head, Count, Learner
 use Rattle.class.specs.declared.Pending.{Pending}
 use Rattle.class.specs.declared.Pending.the-variants.{Nobody, Somebody}
 use Rattle.class_rules.specs.Report.{report}
-use Rattle.class.specs.Standing.{textAt, reportFrom}
+use Rattle.class.specs.StillPrinted.{textAt, reportFrom}
 use Rattle.class.specs.Begun.{begun-report}
 use Rattle.class.specs.Steps.{begun, entryOrLine, going, byte, Did, closed, after, taken, sheetTaken, asksAt, doesAt, does}
 use Rattle.class.specs.Steps.{handed}

@@ -19,7 +19,7 @@ use Rattle.number.specs.declared.reader.Fed.{Fed}
 use Rattle.number.specs.declared.reader.Fed.the-variants.{More, Whole, Bad}
 use Rattle.number.specs.Number.{limit32}
 use Rattle.number.specs.Fed.{fed}
-use Rattle.turns.specs.Places.{least}
+use Rattle.turns.specs.MemoryPlaces.{least}
 use Rattle.class_rules.specs.Report.{mostBytes, fits}
 use Rattle.class.specs.Steps.{going, valued, numbered, byte, Did, turnedIn, sheetOf, pendingIn, closed, superseded, after}
 use Rattle.class.specs.Steps.{taken, sheetTaken, doesAt, does}

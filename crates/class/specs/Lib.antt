@@ -1,5 +1,5 @@
 pub mod Steps
-pub mod Standing
+pub mod StillPrinted
 pub mod Begun
 pub mod StepLaws
 pub mod Stepped

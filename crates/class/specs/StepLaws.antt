@@ -27,12 +27,12 @@ use Rattle.class.specs.declared.Pending.{Pending}
 use Rattle.class.specs.declared.Pending.the-variants.{Nobody, Somebody}
 use Rattle.class.specs.declared.Stage.{Stage}
 use Rattle.class.specs.declared.Stage.the-variants.{Head, Count, Learner, Turn, Length, Sheet, Line, Last, Nothing}
-use Rattle.turns.specs.Places.{drop-least}
+use Rattle.turns.specs.MemoryPlaces.{drop-least}
 use Rattle.class_rules.specs.Report.{Entry, mostBytes, met, fits, sheetAt, entryLine, entryLines, lastLine}
 use Rattle.class_rules.specs.OnePass.{learnerOf, superseding, printed, kept}
 use Rattle.class_rules.specs.Totals.{raisedBy}
-use Rattle.class.specs.Standing.{endText, sheetText, lengthText, turnText, learnerText, entriesText, countText, textAt}
-use Rattle.class.specs.Standing.{reportFrom}
+use Rattle.class.specs.StillPrinted.{endText, sheetText, lengthText, turnText, learnerText, entriesText, countText, textAt}
+use Rattle.class.specs.StillPrinted.{reportFrom}
 use Rattle.class.specs.Steps.{stopping, entryOrLine, going, valued, numbered, byte, Did, turnedIn, sheetOf, entryOf}
 use Rattle.class.specs.Steps.{pendingIn, closed, superseded, after, taken, sheetTaken, asksAt, doesAt, does, handed}
 

@@ -13,8 +13,8 @@ use Rattle.session.specs.Fresh.{freshSession}
 use Rattle.rules.specs.Formula.{holds}
 use Rattle.rules.specs.FormulaLaws.{choose-case}
 use Rattle.rules.specs.Sound.{kept}
-use Rattle.laws.specs.Fresh.{fresh-kept}
-use Rattle.sheet.specs.Printed.{printSheet}
+use Rattle.laws.specs.FreshKept.{fresh-kept}
+use Rattle.sheet.specs.SheetPrinted.{printSheet}
 use Rattle.sheet_counts.specs.declared.Tally.{Tally}
 use Rattle.sheet_counts.specs.Answers.{countsOf}
 use Rattle.sheet_counts.specs.Bounds.{sheet-keeps}

@@ -15,7 +15,7 @@ use Rattle.number.specs.declared.reader.Fed.the-variants.{More, Whole, Bad}
 use Rattle.session.specs.Table.{Session}
 use Rattle.session.specs.Fresh.{freshSession}
 use Rattle.rules.specs.Formula.{choose, Formula._≐_, Formula._≼_}
-use Rattle.sheet.specs.Printed.{printSheet}
+use Rattle.sheet.specs.SheetPrinted.{printSheet}
 use Rattle.sheet_counts.specs.declared.Tally.{Tally}
 use Rattle.sheet_counts.specs.Answers.{countsOf, noCounts}
 use Rattle.tally.specs.Raise.{raise}
@@ -25,7 +25,7 @@ use Rattle.class.specs.declared.Stage.the-variants.{Head, Count, Learner
 use Rattle.class.specs.declared.Turned.{Turned}
 use Rattle.class.specs.declared.Pending.{Pending}
 use Rattle.class.specs.declared.Pending.the-variants.{Nobody, Somebody}
-use Rattle.turns.specs.Places.{least}
+use Rattle.turns.specs.MemoryPlaces.{least}
 use Rattle.class_rules.specs.Report.{Entry, mostBytes, fits, sheetAt, head, entryLine, lastLine}
 
 -- A report that has printed and read nothing.

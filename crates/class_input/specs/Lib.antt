@@ -1,3 +1,3 @@
 pub mod Ahead
 pub mod Window
-pub mod Reads
+pub mod WindowLaws

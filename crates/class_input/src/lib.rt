@@ -4,7 +4,7 @@ ghost use Prim.Native.Nat.{_+_, _-_, _≤_};
 ghost use mathlib.Core.Path.{_≡_};
 ghost use lib.ListN.{length};
 ghost use Rattle.number.specs.Number.{splice};
-ghost use Rattle.turns.specs.Places.{least};
+ghost use Rattle.turns.specs.MemoryPlaces.{least};
 ghost use Rattle.class.specs.Halves.{InHalf, Apart, freeHalf};
 ghost use Rattle.class_input.specs.Ahead.{behind, Ahead};
 ghost use Rattle.class_input.specs.Window.{part, Inside, Filled, Given};

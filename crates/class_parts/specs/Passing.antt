@@ -11,7 +11,7 @@ use lib.Seq.{drop-drop, length-take-le}
 use Rattle.number.specs.Number.{limit32, readAt}
 use Rattle.number.specs.Fed.{start, fed, feeds}
 use Rattle.number.specs.FedLaws.{feeds-reads}
-use Rattle.number.specs.Laws.{value-next}
+use Rattle.number.specs.NumberRoundTrip.{value-next}
 use Rattle.number.specs.declared.Reading.{Reading}
 use Rattle.number.specs.declared.Reading.the-variants.{Value, CutShort, Bad as BadNumber}
 use Rattle.number.specs.declared.reader.Reader.{Reader}

@@ -16,14 +16,14 @@ use Rattle.session.specs.Fresh.{freshSession, Leaves}
 use Rattle.rules.specs.Formula.{Formula, choose, holds, Formula._≼_, Formula._and_}
 use Rattle.rules.specs.FormulaLaws.{passes, fails}
 use Rattle.rules.specs.Sound.{kept}
-use Rattle.laws.specs.Fresh.{fresh-kept}
+use Rattle.laws.specs.FreshKept.{fresh-kept}
 use Rattle.text.specs.Put.{Put, put-none, put-then}
-use Rattle.turns.specs.Places.{least, take-least}
+use Rattle.turns.specs.MemoryPlaces.{least, take-least}
 use Rattle.class_parts.specs.declared.Part.{Part}
 use Rattle.class.specs.declared.Step.{Step}
 use Rattle.class.specs.declared.Report.{Report}
 use Rattle.class.specs.declared.Stage.the-variants.{Nothing}
-use Rattle.class.specs.Standing.{reportFrom}
+use Rattle.class.specs.StillPrinted.{reportFrom}
 use Rattle.class.specs.Steps.{asks, handed}
 use Rattle.class.specs.Stepped.{Took}
 use Rattle.class_parts.specs.Passing.{Leads, Passed}

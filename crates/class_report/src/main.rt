@@ -8,7 +8,7 @@ ghost use mathlib.Core.Path.{_≡_};
 ghost use lib.ListN.{length};
 ghost use Rattle.sheet.specs.Printing.{Ready};
 ghost use Rattle.text.specs.Put.{Put};
-ghost use Rattle.class_report.specs.Stepped.{stepOn};
+ghost use Rattle.class_report.specs.ProgramStepped.{stepOn};
 
 // How many bytes of lines are gathered, at most, before they are written.
 const PART: usize = 16384;

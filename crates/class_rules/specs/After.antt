@@ -9,7 +9,7 @@ use Rattle.number.specs.Number.{limit32, more, first, readAt}
 use Rattle.number.specs.Encode.{Groups, one, several, groups}
 use Rattle.number.specs.Decode.{more-last, more-on}
 use Rattle.number.specs.NumberCases.{At, good, reading-as, judged-value, read-ends}
-use Rattle.number.specs.Laws.{value-next}
+use Rattle.number.specs.NumberRoundTrip.{value-next}
 use Rattle.number.specs.declared.Reading.the-variants.{Value}
 use Rattle.rules.specs.Formula.{Formula, holds, choose, Formula._≼_}
 use Rattle.rules.specs.FormulaLaws.{choose-yes, choose-case}

@@ -5,7 +5,7 @@ use mathlib.Core.Path.{_≡_, refl}
 use native.Mathlib.Omega.{arith}
 use lib.ListN.{length, drop, length-take}
 use Rattle.number.specs.Number.{limit32}
-use Rattle.number.specs.Laws.{value-next}
+use Rattle.number.specs.NumberRoundTrip.{value-next}
 use Rattle.number.specs.declared.Reading.{Reading}
 use Rattle.number.specs.declared.Reading.the-variants.{Value, Bad, CutShort}
 use Rattle.rules.specs.Formula.{Formula._≼_}

@@ -1,2 +1,2 @@
 pub mod Words
-pub mod Calls
+pub mod ReportCalls

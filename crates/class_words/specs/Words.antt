@@ -16,7 +16,7 @@ use Rattle.class.specs.declared.Stage.the-variants.{Head, Count, Learner, Turn,
 use Rattle.class.specs.declared.Turned.{Turned}
 use Rattle.class.specs.declared.Pending.{Pending}
 use Rattle.class.specs.declared.Pending.the-variants.{Nobody, Somebody}
-use Rattle.turns.specs.Places.{least}
+use Rattle.turns.specs.MemoryPlaces.{least}
 use Rattle.class_parts.specs.ReportParts.{lends, Reported, Parted}
 
 -- What comes next has a code: the head 0, then the number of sheets, a learner, a turn, a length, a sheet and the last line;

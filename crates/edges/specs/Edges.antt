@@ -7,7 +7,7 @@ use Rattle.number.specs.Edges.{P6 as number-edge}
 use Rattle.rules.specs.Formula.{holds}
 use Rattle.rules.specs.Edges.{p1, p2, p3, p4, p8, p8-then, p9, p10, readyStays, grantWhole, firstClaim}
 use Rattle.rules.specs.Edges.{allMet, edges, edges-met}
-use Rattle.sheet.specs.Printed.{output}
+use Rattle.sheet.specs.SheetPrinted.{output}
 use Rattle.edges.specs.Single.{Met, met}
 use Rattle.edges.specs.Filled.{p5, filled}
 use Rattle.edges.specs.Empty.{empty-sheet}

@@ -12,10 +12,10 @@ use Rattle.rules.specs.Effects.{new}
 use Rattle.rules.specs.Step.{freshSession}
 use Rattle.rules.specs.LastLine.{liveTasks, undeliveredLinks}
 use Rattle.record.specs.Sheet.{headRefusal}
-use Rattle.laws.specs.Fresh.{fresh-kept}
+use Rattle.laws.specs.FreshKept.{fresh-kept}
 use Rattle.laws.specs.ByName.{kept-sound}
 use Rattle.sheet.specs.Run.{lastLine}
-use Rattle.sheet.specs.Printed.{Printed, output}
+use Rattle.sheet.specs.SheetPrinted.{Printed, output}
 use Rattle.sheet.specs.PrintLaws.{print-head}
 
 cut-short : headRefusal [] ≡ 3

@@ -8,7 +8,7 @@ use Rattle.rules.specs.Sound.{kept}
 use Rattle.rules.specs.Step.{Reply, freshSession, step, after}
 use Rattle.rules.specs.Demand.{next, run, sessionAfter}
 use Rattle.rules.specs.Edges.{Expected, Edge, plays, isMet}
-use Rattle.laws.specs.Fresh.{fresh-kept}
+use Rattle.laws.specs.FreshKept.{fresh-kept}
 use Rattle.laws.specs.StepKeeps.{step-keeps, kept-step}
 
 unfoldable pub operations : List Expected → List Operation

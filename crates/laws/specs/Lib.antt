@@ -28,7 +28,7 @@ pub mod Grown
 pub mod Born
 pub mod Making
 pub mod MakingOutputs
-pub mod Fresh
+pub mod FreshKept
 pub mod Template
 pub mod Event
 pub mod Block
@@ -65,7 +65,7 @@ pub mod Lasting
 pub mod LastingEffects
 pub mod LastingOperations
 -- The book: how it and the session agree, operation by operation
-pub mod Entries
+pub mod BookEntries
 pub mod Relation
 pub mod Column
 pub mod RelatedFresh

@@ -21,7 +21,7 @@ use Rattle.rules.specs.Sound.{kept}
 use Rattle.rules.specs.Book.{Book, enter, enterDeliver, satisfies, Column}
 use Rattle.laws.specs.Met.{Checked}
 use Rattle.laws.specs.Outside.{outside-same, outside-put, outside-within}
-use Rattle.laws.specs.Entries.{outside-enter}
+use Rattle.laws.specs.BookEntries.{outside-enter}
 use Rattle.laws.specs.Frame.{AllOf, Shown.due}
 use Rattle.laws.specs.Rows.Name.{counts, taskParts, eventParts, slots, links, states, settled}
 use Rattle.laws.specs.Keeping.{Kept}

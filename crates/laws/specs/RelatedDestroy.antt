@@ -28,7 +28,7 @@ use Rattle.laws.specs.Conjuncts.Output.{output-made, output-event, outpu
 use Rattle.laws.specs.Standing.{made-low, open-unless, output-at, open-output}
 use Rattle.laws.specs.Outside.{Outside, outside-same, outside-put}
 use Rattle.laws.specs.Writes.{letGoFields, release-writes}
-use Rattle.laws.specs.Entries.{outside-enter}
+use Rattle.laws.specs.BookEntries.{outside-enter}
 use Rattle.laws.specs.Relation.{Clause, says, Related, Due, related-by}
 use Rattle.laws.specs.Relation.Clause.{same-kinds, same-types, same-outputs, tasks-destroyed, blocks-destroyed}
 use Rattle.laws.specs.Relation.Clause.{satisfied-agree, blank-destroyed}

@@ -20,7 +20,7 @@ use Rattle.laws.specs.DestroyEvent.{EventAfter, event-after, EventAfter.
 use Rattle.laws.specs.DestroyEvent.{EventAfter.stays, LinkAfter, link-after, LinkAfter.cut-now, LinkAfter.as-was}
 use Rattle.laws.specs.Outside.{outside-same}
 use Rattle.laws.specs.Writes.{destroyEvent-writes}
-use Rattle.laws.specs.Entries.{outside-enter, outside-strike}
+use Rattle.laws.specs.BookEntries.{outside-enter, outside-strike}
 use Rattle.laws.specs.Frame.{Shown.due}
 use Rattle.laws.specs.Relation.{Blank, Marks, HadFired, StruckAgree, Clause, says, Related, Due, related-by}
 use Rattle.laws.specs.Relation.Clause.{same-links, same-sources, tasks-destroyed, blocks-destroyed, fired-has, open-has}

@@ -22,7 +22,7 @@ use Rattle.laws.specs.ByName.{by-name}
 use Rattle.laws.specs.Conjuncts.{task-by-name, Task.finish-flag, output-row, Output.output-made, Output.output-type}
 use Rattle.laws.specs.Standing.{made-low, output-at, open-output}
 use Rattle.laws.specs.Outside.{outside-same}
-use Rattle.laws.specs.Entries.{outside-enter}
+use Rattle.laws.specs.BookEntries.{outside-enter}
 use Rattle.laws.specs.Relation.{HadFired, Clause, says, Related, Due, related-by}
 use Rattle.laws.specs.Relation.Clause.{same-finishes, same-outputs, fired-has, open-has, blank-has}
 use Rattle.laws.specs.Column.{at-set, set-there, blank-set, unfired}

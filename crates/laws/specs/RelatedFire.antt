@@ -17,7 +17,7 @@ use Rattle.rules.specs.Effects.{fire, fireOne, fireFinished, finishes, satisfyE
 use Rattle.rules.specs.Book.{Book, enter, satisfies, Column}
 use Rattle.laws.specs.Outside.{outside-same, outside-put, outside-within}
 use Rattle.laws.specs.Writes.{fireFields, fire-writes, fireOne-writes}
-use Rattle.laws.specs.Entries.{outside-enter}
+use Rattle.laws.specs.BookEntries.{outside-enter}
 use Rattle.laws.specs.Frame.{Shown.due}
 use Rattle.laws.specs.Conjuncts.{finishes-by-name}
 use Rattle.laws.specs.Firing.{EventAfter, event-after, EventAfter.fires-now, EventAfter.stays}

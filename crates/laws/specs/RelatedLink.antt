@@ -24,7 +24,7 @@ use Rattle.laws.specs.Dependence.{claimedFor, Depended, depended}
 use Rattle.laws.specs.Dependence.Depended.{links-task, links-event, fills-task, fills-event}
 use Rattle.laws.specs.Outside.{outside-same, outside-put, outside-within}
 use Rattle.laws.specs.Writes.{linkFields, newLink-writes}
-use Rattle.laws.specs.Entries.{outside-enter}
+use Rattle.laws.specs.BookEntries.{outside-enter}
 use Rattle.laws.specs.Frame.{Shown.due}
 use Rattle.laws.specs.Relation.{Marks, StruckAgree, Clause, says, Related, Due, related-by, related-unread}
 use Rattle.laws.specs.Relation.Clause.{same-links, same-kinds, same-sources, same-targets, same-slots, struck-agree}

@@ -23,7 +23,7 @@ use Rattle.rules.specs.Book.{Book, enter, enterObject, enterTask, Column}
 use Rattle.laws.specs.Met.{Checked}
 use Rattle.laws.specs.Outside.{Outside, outside-same, outside-put}
 use Rattle.laws.specs.Writes.{new-writes}
-use Rattle.laws.specs.Entries.{OutsideBook, outside-enter}
+use Rattle.laws.specs.BookEntries.{OutsideBook, outside-enter}
 use Rattle.laws.specs.Frame.{Shown, Shown.due}
 use Rattle.laws.specs.Rows.Name.{freeSlots}
 use Rattle.laws.specs.ByName.{by-name}

@@ -8,7 +8,7 @@ use Rattle.rules.specs.Sound.{kept}
 use Rattle.rules.specs.Step.{freshSession, step, entered}
 use Rattle.rules.specs.Book.{Book, opening}
 use Rattle.rules.specs.Demand.{accepted, next, run, calls, sessionAfter, bookAfter, book}
-use Rattle.laws.specs.Fresh.{fresh-kept}
+use Rattle.laws.specs.FreshKept.{fresh-kept}
 use Rattle.laws.specs.StepKeeps.{step-keeps}
 use Rattle.laws.specs.OneCall.{refusal-stays}
 use Rattle.laws.specs.Relation.{Related}

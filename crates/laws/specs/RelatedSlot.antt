@@ -13,7 +13,7 @@ use Rattle.rules.specs.Effects.{satisfySlot}
 use Rattle.rules.specs.Book.{Book, enter, satisfies, Column}
 use Rattle.laws.specs.SlotPlaces.{same-task}
 use Rattle.laws.specs.Outside.{outside-same, outside-put}
-use Rattle.laws.specs.Entries.{OutsideBook, outside-enter}
+use Rattle.laws.specs.BookEntries.{OutsideBook, outside-enter}
 use Rattle.laws.specs.Frame.{Shown.due}
 use Rattle.laws.specs.Relation.{SlotsAgree, SlotAgrees, Clause, says, Related, Due, related-by}
 use Rattle.laws.specs.Relation.Clause.{same-kinds, slots-agree, blank-times}

@@ -15,7 +15,7 @@ use Rattle.rules.specs.Book.{Book, enter, Column}
 use Rattle.laws.specs.Met.{Checked}
 use Rattle.laws.specs.Outside.{outside-same, outside-put, outside-change}
 use Rattle.laws.specs.Writes.{start-writes, letGoFields, letGo-writes}
-use Rattle.laws.specs.Entries.{outside-enter}
+use Rattle.laws.specs.BookEntries.{outside-enter}
 use Rattle.laws.specs.Frame.{Shown.due}
 use Rattle.laws.specs.Rows.Name.{counts, taskParts, slots as its-slots}
 use Rattle.laws.specs.Keeping.{Kept}

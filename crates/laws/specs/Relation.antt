@@ -19,7 +19,7 @@ use Rattle.rules.specs.EventTypes.{firesAtFirst}
 use Rattle.rules.specs.Book.{Book, Column, column}
 use Rattle.laws.specs.Tables.{meetsOf, onlyOf, alike}
 use Rattle.laws.specs.Outside.{fields, Outside, outside-same, outside-within}
-use Rattle.laws.specs.Entries.{columns, OutsideBook}
+use Rattle.laws.specs.BookEntries.{columns, OutsideBook}
 use Rattle.laws.specs.Frame.{Shown, Shown.due}
 pub use Rattle.laws.specs.Lasting.{HadFired}
 

@@ -6,7 +6,7 @@ use Rattle.rules.specs.Formula.{holds}
 use Rattle.rules.specs.Sound.{kept}
 use Rattle.rules.specs.Step.{freshSession, step}
 use Rattle.rules.specs.Demand.{next, run, sessionAfter}
-use Rattle.laws.specs.Fresh.{fresh-kept}
+use Rattle.laws.specs.FreshKept.{fresh-kept}
 use Rattle.laws.specs.StepKeeps.{step-keeps}
 use Rattle.laws.specs.Lasting.{Later, later-same, later-then}
 use Rattle.laws.specs.OneCall.{one-call}

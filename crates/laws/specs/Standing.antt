@@ -32,9 +32,9 @@ use Rattle.laws.specs.SlotPlaces.{low-slot}
 pub made-low : (s : Session) (h : ℕ) → holds (says counts s) → holds (made s h) → h < objectPlaces
 made-low s h c m = omega arith
 
--- so has a handle that was made, or null, by the rules of a sound session
+-- so no handle that was made, or null, is past the largest
 pub handle-made : (s : Session) (h : ℕ) → Sound s → holds (made s h) → h ≤ mostObjects
-handle-made s h g m = let c = g counts .1 .0 in omega arith
+handle-made s h g m = let l = made-low s h (g counts) m in omega arith
 
 pub handle-or-null : (s : Session) (h : ℕ) → Sound s → holds (orNull s (made s) h) → h ≤ mostObjects
 handle-or-null s h g (inl z) = omega arith

@@ -1,3 +1,3 @@
 pub mod Called
-pub mod Calls
+pub mod LibraryCalls
 pub mod Sheets

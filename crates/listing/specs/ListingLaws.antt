@@ -12,8 +12,8 @@ use Rattle.rules.specs.FormulaLaws.{Case, decide, choose-yes, choose-no, Case.i
 use Rattle.rules.specs.Step.{arg}
 use Rattle.record.specs.declared.Record.{Record}
 use Rattle.rules.specs.Arity.{fieldCount, nameOf}
-use Rattle.record.specs.Reading.{recordAt}
-use Rattle.record.specs.Laws.{Forward, record-forward}
+use Rattle.record.specs.RecordReading.{recordAt}
+use Rattle.record.specs.RecordRoundTrip.{Forward, record-forward}
 use Rattle.record.specs.Sheet.{followed, recordsFrom, headAt}
 use Rattle.record.specs.SheetLaws.{followed-on, followed-stop}
 use Rattle.record.specs.declared.Place.the-variants.{Behind, Refused}

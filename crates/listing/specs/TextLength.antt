@@ -8,7 +8,7 @@ use lib.Dec.{lit≤}
 use lib.ListN.{length, length-append}
 use Rattle.number.specs.Number.{AreBytes, limit32, encode}
 use Rattle.number.specs.Encode.{encode-ind}
-use Rattle.number.specs.Laws.{length-some, value-next}
+use Rattle.number.specs.NumberRoundTrip.{length-some, value-next}
 use Rattle.decimal.specs.Decimal.{decimal}
 use Rattle.lines.specs.LineLaws.{digits-bound}
 use Rattle.rules.specs.declared.Operation.{Operation}
@@ -19,11 +19,11 @@ use Rattle.record.specs.declared.Place.{Place}
 use Rattle.record.specs.declared.Place.the-variants.{Behind, Refused}
 use Rattle.record.specs.declared.Record.{Record}
 use Rattle.rules.specs.Arity.{fieldCount, nameOf, fields-some}
-use Rattle.record.specs.Reading.{placed, recordAt}
+use Rattle.record.specs.RecordReading.{placed, recordAt}
 use Rattle.record.specs.Writing.{fieldBytes, recordBytes, isRecordable}
 use Rattle.record.specs.Sheet.{headAt, headChecks, headRefusal, firstRecord}
 use Rattle.record.specs.Refusals.{refusal-most}
-use Rattle.record.specs.Laws.{record-refusals, record-again}
+use Rattle.record.specs.RecordRoundTrip.{record-refusals, record-again}
 use Rattle.record.specs.SheetLaws.{head-none}
 use Rattle.listing.specs.Listing.{fieldText, fieldsText, line, refusalLine, textFrom, textOf, roomFor}
 use Rattle.listing.specs.ListingLaws.{field-length, line-length, refusal-length, forward, left, left-start, left-end}

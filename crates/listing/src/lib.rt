@@ -14,7 +14,7 @@ ghost use Rattle.rules.specs.Arity.{isCode, fieldCount, nameOf};
 ghost use Rattle.rules.specs.Formula.{holds};
 ghost use Rattle.record.specs.Sheet.{recordsFrom};
 ghost use Rattle.text.specs.Put.{Put};
-ghost use Rattle.text.specs.Printed.{printed, printedMemory};
+ghost use Rattle.text.specs.TextPrinted.{printed, printedMemory};
 ghost use Rattle.listing.specs.Listing.{fieldText, fieldsText, line, refusalLine, recordsText, textOf, roomFor};
 
 // How many bytes of text a byte of the sheet takes at most, and how many more are asked for.

@@ -3,7 +3,7 @@ pub mod Encode
 pub mod Decode
 pub mod NumberCases
 pub mod Splice
-pub mod Laws
+pub mod NumberRoundTrip
 pub mod Fed
 pub mod FedCases
 pub mod FedLaws

@@ -12,7 +12,7 @@ use Rattle.number.specs.declared.Reading.the-variants.{Value, Bad, CutShort}
 use Rattle.rules.specs.Checks.{check, refusal}
 use Rattle.rules.specs.Formula.{Formula, holds, Formula.each}
 use Rattle.rules.specs.FormulaLaws.{Case, decide, Case.it-does, Case.it-does-not}
-use Rattle.record.specs.Reading.{place, nth, clears, five, refusedRecord, fieldsAt}
+use Rattle.record.specs.RecordReading.{place, nth, clears, five, refusedRecord, fieldsAt}
 use Rattle.record.specs.Refusals.{refusal-met, refusal-fails, refusal-empty, answered-none, answered-refused}
 use Rattle.record.specs.Fields.{place-none, place-value, place-bad, five-more}
 

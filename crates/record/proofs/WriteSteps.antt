@@ -19,7 +19,7 @@ use Rattle.record.specs.Writing.{recordRoom, fieldBytes, numbersBytes, r
 use Rattle.record.specs.Writing.{memoryAfter}
 use Rattle.record.specs.Refusals.{refusal-met, refusal-fails, refusal-empty, placed-none, placed-refused}
 use Rattle.record.specs.Fields.{fieldBytes-more}
-use Rattle.record.specs.Laws.{record-length}
+use Rattle.record.specs.RecordRoundTrip.{record-length}
 
 -- the bytes of fewer fields are fewer
 part : (f : ℕ → ℕ) (k n : ℕ) → k ≤ n → length (fieldBytes k f) ≤ length (fieldBytes n f)

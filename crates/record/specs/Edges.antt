@@ -9,7 +9,7 @@ use Rattle.rules.specs.Formula.{test}
 use Rattle.rules.specs.Checks.{refusal}
 use Rattle.rules.specs.Step.{rules, lastCode}
 use Rattle.record.specs.declared.Place.the-variants.{Behind, Refused}
-use Rattle.record.specs.Reading.{behind, place, five, answered, placed, recordAt}
+use Rattle.record.specs.RecordReading.{behind, place, five, answered, placed, recordAt}
 use Rattle.record.specs.Writing.{fieldBytes, recordBytes, writtenAt}
 use Rattle.record.specs.Sheet.{headAt, recordsBytes, sheetOf, recordsFrom, contents}
 

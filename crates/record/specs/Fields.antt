@@ -10,11 +10,11 @@ use lib.ListN.{length, drop, getD, set, length-append}
 use borrow.Author.Count.{below-none, below-more}
 use borrow.Author.Tests.{lt-ltb, ltb-true}
 use Rattle.number.specs.Number.{AreBytes, limit32, encode, valueOf}
-use Rattle.number.specs.Laws.{read-back, rewritten, value-next, length-32, stands-behind}
+use Rattle.number.specs.NumberRoundTrip.{read-back, rewritten, value-next, length-32, stands-behind}
 use Rattle.number.specs.declared.Reading.the-variants.{Value, Bad}
 use Rattle.session.specs.Table.{pick}
 use Rattle.rules.specs.Formula.{holds}
-use Rattle.record.specs.Reading.{behind, place, nth, oneOf, five}
+use Rattle.record.specs.RecordReading.{behind, place, nth, oneOf, five}
 use Rattle.record.specs.Writing.{fieldBytes, within}
 
 -- The five places of an operation's fields.

@@ -1,9 +1,9 @@
-pub mod Reading
+pub mod RecordReading
 pub mod Writing
 pub mod Sheet
 pub mod Refusals
 pub mod Fields
 pub mod RecordCases
-pub mod Laws
+pub mod RecordRoundTrip
 pub mod SheetLaws
 pub mod Edges

@@ -11,8 +11,8 @@ use Rattle.rules.specs.Arity.{isCode, arityOf, fieldCount}
 use Rattle.rules.specs.Checks.{refusal}
 use Rattle.rules.specs.Formula.{holds, Formula.each}
 use Rattle.rules.specs.FormulaLaws.{Case, decide, choose-yes, choose-no, Case.it-does, Case.it-does-not}
-use Rattle.record.specs.Reading.{behind, place, nth, clears, refusedRecord, answered, operationAt, fieldsAt, codeAt}
-use Rattle.record.specs.Reading.{firstField, countAt, recordChecks, recordAt}
+use Rattle.record.specs.RecordReading.{behind, place, nth, clears, refusedRecord, answered, operationAt, fieldsAt, codeAt}
+use Rattle.record.specs.RecordReading.{firstField, countAt, recordChecks, recordAt}
 use Rattle.record.specs.Refusals.{is-value, refusal-met, refusal-fails, refusal-none, refusal-empty, number-cut, number-bad}
 use Rattle.record.specs.Refusals.{number-value, number-none, answered-none, answered-refused, answered-number}
 use Rattle.record.specs.Fields.{AllRead}

@@ -12,7 +12,7 @@ use Rattle.rules.specs.Checks.{Check, check, refusal}
 use Rattle.rules.specs.Formula.{Formula, holds, Formula._≐_}
 use Rattle.rules.specs.FormulaLaws.{Case, decide, choose-yes, choose-no, Case.it-does, Case.it-does-not}
 use Rattle.record.specs.declared.Place.the-variants.{Behind, Refused}
-use Rattle.record.specs.Reading.{behind, clears, numberChecks, answered, refusedRecord, placed}
+use Rattle.record.specs.RecordReading.{behind, clears, numberChecks, answered, refusedRecord, placed}
 
 -- A reading that is not refused is a value, and the place behind it.
 pub is-value : (at : ℕ) (r : Reading) → (refusalOf r ≡ 3 → ⊥) → (refusalOf r ≡ 4 → ⊥) → r ≡ Value (valueOf r) (behind at r)

@@ -8,7 +8,7 @@ use Rattle.rules.specs.Checks.{Check, check, refusal}
 use Rattle.rules.specs.Formula.{choose, Formula._≐_, Formula._≼_}
 use Rattle.record.specs.declared.Place.{Place}
 use Rattle.record.specs.declared.Record.{Record}
-use Rattle.record.specs.Reading.{behind, numberChecks, placed, recordAt}
+use Rattle.record.specs.RecordReading.{behind, numberChecks, placed, recordAt}
 use Rattle.record.specs.Writing.{recordBytes}
 
 -- "5. The sheet's first number is not 1."

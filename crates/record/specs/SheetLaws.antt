@@ -7,17 +7,17 @@ use native.Mathlib.Omega.{arith}
 use lib.Dec.{lit<, lit≤}
 use lib.ListN.{length, drop, length-append, length-drop, drop-of-length-le}
 use Rattle.number.specs.Number.{AreBytes, limit32, encode, readAt, valueOf}
-use Rattle.number.specs.Laws.{read-back, rewritten, stands-behind}
+use Rattle.number.specs.NumberRoundTrip.{read-back, rewritten, stands-behind}
 use Rattle.number.specs.declared.Reading.the-variants.{Value, Bad, CutShort}
 use Rattle.rules.specs.declared.Operation.{Operation}
 use Rattle.rules.specs.Formula.{holds, Formula._≐_, Formula._≼_}
 use Rattle.rules.specs.FormulaLaws.{Case, decide, choose-yes, choose-no, Case.it-does, Case.it-does-not}
 use Rattle.record.specs.declared.Record.{Record}
 use Rattle.record.specs.declared.Place.the-variants.{Behind, Refused}
-use Rattle.record.specs.Reading.{behind, recordAt}
+use Rattle.record.specs.RecordReading.{behind, recordAt}
 use Rattle.record.specs.Refusals.{refusal-met, refusal-fails, refusal-none, refusal-empty, number-cut, number-bad}
 use Rattle.record.specs.Refusals.{number-value, number-none, placed-none, placed-refused}
-use Rattle.record.specs.Laws.{record-some, record-back, record-forward, record-again}
+use Rattle.record.specs.RecordRoundTrip.{record-some, record-back, record-forward, record-again}
 use Rattle.record.specs.Writing.{recordBytes, isRecordable, own}
 use Rattle.record.specs.Sheet.{headRefusal, firstRecord, headAt, recordsBytes, sheetOf, Contents, stopped, followed}
 use Rattle.record.specs.Sheet.{recordsFrom, contents}

@@ -9,7 +9,7 @@ use Rattle.rules.specs.Checks.{Check, check, refusal}
 use Rattle.rules.specs.Formula.{Formula, choose, Formula._≐_, Formula._≼_, Formula._and_, Formula.each}
 use Rattle.rules.specs.Step.{arg}
 use Rattle.record.specs.declared.Place.{Place}
-use Rattle.record.specs.Reading.{operation, placed}
+use Rattle.record.specs.RecordReading.{operation, placed}
 
 -- "the line or record memory has under 32 bytes free"
 abbrev pub recordRoom : ℕ

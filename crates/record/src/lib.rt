@@ -10,7 +10,7 @@ ghost use Prim.Native.Nat.{_+_, _≤_, _<_};
 ghost use lib.ListN.{length, getD};
 ghost use Rattle.number.specs.Number.{encode, splice};
 ghost use Rattle.rules.specs.Formula.{test};
-ghost use Rattle.record.specs.Reading.{recordAt, fieldsAt, refusedRecord};
+ghost use Rattle.record.specs.RecordReading.{recordAt, fieldsAt, refusedRecord};
 ghost use Rattle.record.specs.Writing.{within, numbersBytes, writtenAt, memoryAfter};
 ghost use Rattle.record.specs.Sheet.{headAt};
 

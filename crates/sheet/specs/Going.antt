@@ -10,8 +10,8 @@ use Rattle.rules.specs.Formula.{Formula, holds, choose, Formula._≐_, Formula.
 use Rattle.rules.specs.FormulaLaws.{choose-yes, choose-no}
 use Rattle.rules.specs.Sound.{sound, kept}
 use Rattle.rules.specs.Step.{step}
-use Rattle.record.specs.Reading.{recordAt}
-use Rattle.record.specs.Laws.{record-forward}
+use Rattle.record.specs.RecordReading.{recordAt}
+use Rattle.record.specs.RecordRoundTrip.{record-forward}
 use Rattle.laws.specs.StepKeeps.{step-keeps}
 use Rattle.sheet.specs.declared.Ended.{Ended}
 use Rattle.sheet.specs.declared.Went.{Went}

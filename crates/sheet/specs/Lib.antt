@@ -6,7 +6,7 @@ pub mod WholeSheet
 pub mod Closing
 pub mod Settled
 pub mod NeverFull
-pub mod Printed
+pub mod SheetPrinted
 pub mod PrintLaws
 pub mod SheetParts
 pub mod PartOf

@@ -9,7 +9,7 @@ use native.Mathlib.Omega.{arith}
 use lib.Dec.{lit<}
 use lib.ListN.{length}
 use Rattle.number.specs.Number.{limit32, readAt}
-use Rattle.number.specs.Laws.{value-next}
+use Rattle.number.specs.NumberRoundTrip.{value-next}
 use Rattle.number.specs.Splice.{splice-length}
 use Rattle.lines.specs.Line.{line}
 use Rattle.lines.specs.LineLaws.{digits-bound, line-length}
@@ -20,11 +20,11 @@ use Rattle.rules.specs.Formula.{holds, Formula._≐_, Formula._≼_}
 use Rattle.rules.specs.FormulaLaws.{Case, decide, choose-yes, choose-no, Case.it-does, Case.it-does-not}
 use Rattle.rules.specs.Sound.{sound}
 use Rattle.rules.specs.Step.{step}
-use Rattle.record.specs.Reading.{place, codeAt, firstField, countAt, recordChecks, recordAt}
+use Rattle.record.specs.RecordReading.{place, codeAt, firstField, countAt, recordChecks, recordAt}
 use Rattle.record.specs.Refusals.{number-none, answered-number}
 use Rattle.record.specs.Fields.{AllRead, place-none}
 use Rattle.record.specs.RecordCases.{accepted}
-use Rattle.record.specs.Laws.{record-forward, record-refusals}
+use Rattle.record.specs.RecordRoundTrip.{record-forward, record-refusals}
 use Rattle.record.specs.Sheet.{headRefusal, headChecks, firstRecord}
 use Rattle.sheet.specs.Run.{Lines, hasRoom, withLine, Run, ended, endedBy, runFrom, runSheet}
 use Rattle.sheet.specs.RunLaws.{run-end, run-unsound, run-refused, run-on, sheet-unsound, sheet-refused, sheet-runs, below}

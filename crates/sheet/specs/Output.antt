@@ -24,7 +24,7 @@ use Rattle.sheet.specs.Going.{linesOf, lent, Ends}
 use Rattle.sheet.specs.WholeSheet.{Ran}
 use Rattle.sheet.specs.Closing.{closed, closed-room, line-closing}
 use Rattle.sheet.specs.NeverFull.{never-full}
-use Rattle.sheet.specs.Printed.{Printed, prints, after, printSheet, output}
+use Rattle.sheet.specs.SheetPrinted.{Printed, prints, after, printSheet, output}
 use Rattle.sheet.specs.SheetParts.{text, whole-part, rest-none}
 use Rattle.sheet.specs.SheetDemand.{sheet-demand}
 

@@ -18,7 +18,7 @@ use Rattle.sheet.specs.declared.Part.{Part}
 use Rattle.sheet.specs.Run.{Lines, lineRoom, hasRoom, Run, ended, runAt, lastLine}
 use Rattle.sheet.specs.Going.{linesOf, lent, Ends}
 use Rattle.sheet.specs.Closing.{withLast, Closes, closed-room, closed-not}
-use Rattle.sheet.specs.Printed.{Printed, prints, after, closing, printAt, recordsBefore, printNext}
+use Rattle.sheet.specs.SheetPrinted.{Printed, prints, after, closing, printAt, recordsBefore, printNext}
 use Rattle.sheet.specs.PrintLaws.{print-behind}
 use Rattle.sheet.specs.SheetParts.{text, FirstPart, place-part, rest-full, rest-none}
 use Rattle.sheet.specs.PartOf.{PartRun, partRun, lastPart, goingOn, partFrom, partsLeft, Tells, TellsLast, PartOf, Parted}

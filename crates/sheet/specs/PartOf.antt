@@ -12,7 +12,7 @@ use Rattle.sheet.specs.declared.Part.{Part}
 use Rattle.sheet.specs.Run.{Lines, lineRoom, hasRoom, Run, runAt, lastLine}
 use Rattle.sheet.specs.Going.{linesOf, lent}
 use Rattle.sheet.specs.Closing.{withLast}
-use Rattle.sheet.specs.Printed.{after, recordsBefore, printNext}
+use Rattle.sheet.specs.SheetPrinted.{after, recordsBefore, printNext}
 
 -- Where a part stands: the session, the lines, and where the next one goes on.
 pub record PartRun : Type 0 where

@@ -14,7 +14,7 @@ use Rattle.sheet.specs.declared.Part.{Part}
 use Rattle.sheet.specs.Run.{lineRoom}
 use Rattle.sheet.specs.Going.{linesOf, lent}
 use Rattle.sheet.specs.WholeSheet.{fresh-lent}
-use Rattle.sheet.specs.Printed.{Printed, prints, after, printSheet, printAt, printNext, output, output-start}
+use Rattle.sheet.specs.SheetPrinted.{Printed, prints, after, printSheet, printAt, printNext, output, output-start}
 use Rattle.sheet.specs.PartOf.{partsLeft, PartOf}
 
 -- A chain of parts on one memory, each from where the one before said to go on, until nothing is left; with the bytes of their

@@ -10,7 +10,7 @@ use Rattle.rules.specs.Formula.{Formula, choose, not, Formula._≐_, Formula._�
 use Rattle.rules.specs.Sound.{sound}
 use Rattle.rules.specs.Step.{step}
 use Rattle.rules.specs.LastLine.{liveTasks, undeliveredLinks, droppedCount}
-use Rattle.record.specs.Reading.{recordAt}
+use Rattle.record.specs.RecordReading.{recordAt}
 use Rattle.record.specs.Sheet.{headRefusal, firstRecord}
 
 -- "the line or record memory has under 32 bytes free" is check 1; "one beyond the memory leaves nothing free"

@@ -12,7 +12,7 @@ use Rattle.rules.specs.Demand.{Demand3, next, run, sessionAfter}
 use Rattle.rules.specs.Formula.{holds, test, Formula._≐_, Formula._≼_}
 use Rattle.rules.specs.FormulaLaws.{Case, decide, choose-yes, choose-no, Case.it-does, Case.it-does-not}
 use Rattle.rules.specs.Sound.{kept}
-use Rattle.record.specs.Reading.{recordAt}
+use Rattle.record.specs.RecordReading.{recordAt}
 use Rattle.record.specs.Sheet.{Contents, stopped, followed, headRefusal, firstRecord, recordsFrom, contents}
 use Rattle.laws.specs.Prefixes.{session-parts}
 use Rattle.laws.specs.Runs.{always-kept}
@@ -21,7 +21,7 @@ use Rattle.laws.specs.StepKeeps.{step-keeps}
 use Rattle.laws.specs.Demand.{demand-3}
 use Rattle.sheet.specs.declared.Next.the-variants.{At}
 use Rattle.sheet.specs.Run.{Lines, runSheet}
-use Rattle.sheet.specs.Printed.{Printed, printFrom, printSheet, printAt, printNext}
+use Rattle.sheet.specs.SheetPrinted.{Printed, printFrom, printSheet, printAt, printNext}
 use Rattle.sheet.specs.PrintLaws.{print-end, print-refused, print-on, print-head, print-records}
 use Rattle.sheet.specs.Printing.{Chain, chain-printed}
 use Rattle.sheet.specs.Output.{whole-printed}

@@ -11,7 +11,7 @@ use Rattle.rules.specs.FormulaLaws.{Case, decide, choose-yes, choose-no, Case.i
 use Rattle.rules.specs.Sound.{sound}
 use Rattle.rules.specs.Step.{freshSession, step}
 use Rattle.rules.specs.Demand.{Demand3, next, run, sessionAfter}
-use Rattle.record.specs.Reading.{recordAt}
+use Rattle.record.specs.RecordReading.{recordAt}
 use Rattle.record.specs.Sheet.{headRefusal, firstRecord}
 use Rattle.laws.specs.Demand.{demand-3}
 use Rattle.laws.specs.Prefixes.{session-parts}

@@ -14,8 +14,8 @@ use Rattle.rules.specs.Formula.{holds, choose, Formula._≐_, Formula._≼_}
 use Rattle.rules.specs.FormulaLaws.{Case, decide, choose-yes, choose-no, Case.it-does, Case.it-does-not}
 use Rattle.rules.specs.Sound.{sound, kept}
 use Rattle.rules.specs.Step.{step}
-use Rattle.record.specs.Reading.{recordAt}
-use Rattle.record.specs.Laws.{record-forward, record-refusals}
+use Rattle.record.specs.RecordReading.{recordAt}
+use Rattle.record.specs.RecordRoundTrip.{record-forward, record-refusals}
 use Rattle.record.specs.Sheet.{headRefusal, firstRecord}
 use Rattle.laws.specs.StepKeeps.{step-keeps}
 use Rattle.sheet.specs.Run.{Lines, hasRoom, withLine, Run, ended, endedBy, runFrom, runSheet, runAt}
@@ -24,7 +24,7 @@ use Rattle.sheet.specs.RunLaws.{sheet-runs, run-start, run-behind, below
 use Rattle.sheet.specs.WholeSheet.{head-small}
 use Rattle.sheet.specs.Replies.{reply-small}
 use Rattle.sheet.specs.NeverFull.{record-not-full, head-not-full}
-use Rattle.sheet.specs.Printed.{Printed, prints, after, printFrom, printSheet, printAt}
+use Rattle.sheet.specs.SheetPrinted.{Printed, prints, after, printFrom, printSheet, printAt}
 use Rattle.sheet.specs.PrintLaws.{print-end, print-unsound, print-refused, print-on, print-none, print-head, print-records}
 use Rattle.sheet.specs.PrintLaws.{print-start, print-behind, prints-enough}
 

@@ -14,10 +14,10 @@ use Rattle.rules.specs.FormulaLaws.{Case, decide, passes, fails, choose-yes, ch
 use Rattle.rules.specs.Sound.{sound, kept}
 use Rattle.record.specs.declared.Place.{Place}
 use Rattle.record.specs.declared.Place.the-variants.{Behind, Refused}
-use Rattle.record.specs.Reading.{placed, refusedBy, placeOf}
+use Rattle.record.specs.RecordReading.{placed, refusedBy, placeOf}
 use Rattle.record.specs.Refusals.{refusal-most}
 use Rattle.record.specs.Sheet.{headRefusal, headChecks, firstRecord, headAt}
-use Rattle.laws.specs.Fresh.{fresh-kept}
+use Rattle.laws.specs.FreshKept.{fresh-kept}
 use Rattle.sheet.specs.declared.Ended.{Ended}
 use Rattle.sheet.specs.Run.{Lines, hasRoom, withLine, ended, endedBy, runFrom, runSheet, runAt}
 use Rattle.sheet.specs.RunLaws.{sheet-unsound, sheet-refused, sheet-runs, run-start, run-behind}

@@ -16,7 +16,7 @@ ghost use Rattle.rules.specs.Formula.{holds};
 ghost use Rattle.rules.specs.Sound.{kept};
 ghost use Rattle.sheet.specs.Run.{ended};
 ghost use Rattle.sheet.specs.Going.{linesOf, lent};
-ghost use Rattle.sheet.specs.Printed.{recordsBefore};
+ghost use Rattle.sheet.specs.SheetPrinted.{recordsBefore};
 ghost use Rattle.sheet.specs.PartOf.{TellsLast, lastPart, goingOn, PartOf, Parted};
 
 // How many records stand before a place: no more than bytes, whatever a caller says.

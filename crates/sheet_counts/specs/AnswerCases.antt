@@ -9,8 +9,8 @@ use Rattle.rules.specs.Formula.{holds, not, Formula._≐_, Formula._≼_}
 use Rattle.rules.specs.FormulaLaws.{Case, decide, choose-yes, choose-no, Case.it-does, Case.it-does-not}
 use Rattle.rules.specs.Sound.{sound}
 use Rattle.rules.specs.Step.{step}
-use Rattle.record.specs.Reading.{recordAt}
-use Rattle.record.specs.Laws.{record-forward}
+use Rattle.record.specs.RecordReading.{recordAt}
+use Rattle.record.specs.RecordRoundTrip.{record-forward}
 use Rattle.record.specs.Sheet.{headRefusal, firstRecord}
 use Rattle.sheet.specs.RunLaws.{below}
 use Rattle.sheet_counts.specs.Answers.{Answered, answered, answerTo, answersFrom, answersOn}

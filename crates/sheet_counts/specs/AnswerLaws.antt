@@ -11,10 +11,10 @@ use Rattle.rules.specs.Formula.{Formula, test, choose, not, Formula._≐_, Form
 use Rattle.rules.specs.FormulaLaws.{Case, decide, choose-yes, choose-no, Case.it-does, Case.it-does-not}
 use Rattle.rules.specs.Sound.{sound}
 use Rattle.rules.specs.LastLine.{liveTasks, undeliveredLinks, droppedCount}
-use Rattle.record.specs.Reading.{recordAt}
+use Rattle.record.specs.RecordReading.{recordAt}
 use Rattle.record.specs.Sheet.{headRefusal, firstRecord}
 use Rattle.sheet.specs.Run.{lastLine}
-use Rattle.sheet.specs.Printed.{Printed, printFrom, printSheet, output}
+use Rattle.sheet.specs.SheetPrinted.{Printed, printFrom, printSheet, output}
 use Rattle.sheet_counts.specs.Answers.{Answered, answered, lineOf, linesOf, answerTo, answersFrom, answersOn, answers}
 use Rattle.sheet_counts.specs.Answers.{isRefused, howMany, countsIn, countsOf}
 use Rattle.sheet_counts.specs.HowMany.{one, how-many-next}

@@ -10,9 +10,9 @@ use Rattle.rules.specs.Formula.{Formula, choose, not, Formula._≐_, Formula._�
 use Rattle.rules.specs.Sound.{sound}
 use Rattle.rules.specs.Step.{step}
 use Rattle.rules.specs.LastLine.{droppedCount}
-use Rattle.record.specs.Reading.{recordAt}
+use Rattle.record.specs.RecordReading.{recordAt}
 use Rattle.record.specs.Sheet.{headRefusal, firstRecord}
-use Rattle.sheet.specs.Printed.{printSheet}
+use Rattle.sheet.specs.SheetPrinted.{printSheet}
 use Rattle.sheet_counts.specs.declared.Tally.{Tally}
 
 -- An answer line, and the code of the operation that it answers: 0 where no operation was read.

@@ -14,15 +14,15 @@ use Rattle.rules.specs.FormulaLaws.{Case, decide, choose-case, Case.it-does, Ca
 use Rattle.rules.specs.Sound.{sound, kept}
 use Rattle.rules.specs.Step.{step}
 use Rattle.rules.specs.LastLine.{droppedCount}
-use Rattle.record.specs.Reading.{recordAt}
+use Rattle.record.specs.RecordReading.{recordAt}
 use Rattle.record.specs.Sheet.{headRefusal, firstRecord}
 use Rattle.laws.specs.Counting.{count-yes, count-no}
-use Rattle.laws.specs.Fresh.{fresh-kept}
+use Rattle.laws.specs.FreshKept.{fresh-kept}
 use Rattle.laws.specs.Rows.Name.{counts, dropped, freeLinks}
 use Rattle.laws.specs.Conjuncts.{no-link}
 use Rattle.laws.specs.ByName.{kept-sound, sound-by-name}
 use Rattle.laws.specs.StepKeeps.{step-keeps}
-use Rattle.sheet.specs.Printed.{Printed, printFrom, printSheet}
+use Rattle.sheet.specs.SheetPrinted.{Printed, printFrom, printSheet}
 use Rattle.sheet_counts.specs.Answers.{Answered, answersFrom, answersOn, answers, isRefused, isStart, countsIn, countsOf}
 use Rattle.sheet_counts.specs.HowMany.{how-many-most}
 

@@ -13,7 +13,7 @@ use Rattle.rules.specs.Effects.{satisfy, claim, newLink, depend, buryDoomed, le
 use Rattle.rules.specs.Effects.{destroy, drops, deliver, grant, start}
 use Rattle.rules.specs.Step.{rules, answer, after}
 use Rattle.rules.specs.Descendants.{under}
-use Rattle.record.specs.Reading.{behind, place, five, answered, recordAt}
+use Rattle.record.specs.RecordReading.{behind, place, five, answered, recordAt}
 use Rattle.sheet_counts.specs.declared.Tally.{Tally}
 use Rattle.sheet_counts.specs.Answers.{countsOf}
 use Rattle.sheet_counts.specs.Plain.{plainFrom, plainCounts, counts-plain}

@@ -2,8 +2,8 @@ pub mod Answers
 pub mod HowMany
 pub mod Telling
 pub mod AnswerCases
-pub mod Counting
-pub mod Fresh
+pub mod CountingRun
+pub mod FreshSheet
 pub mod TextRead
 pub mod TextReadLaws
 pub mod AnswerLaws

@@ -11,20 +11,20 @@ use Rattle.rules.specs.FormulaLaws.{Case, decide, choose-yes, choose-no, Case.i
 use Rattle.rules.specs.Sound.{kept}
 use Rattle.rules.specs.Step.{answer, after, step}
 use Rattle.rules.specs.LastLine.{droppedCount}
-use Rattle.record.specs.Reading.{recordAt}
+use Rattle.record.specs.RecordReading.{recordAt}
 use Rattle.record.specs.Sheet.{headRefusal, firstRecord}
-use Rattle.laws.specs.Fresh.{fresh-kept}
+use Rattle.laws.specs.FreshKept.{fresh-kept}
 use Rattle.laws.specs.ByName.{kept-sound}
 use Rattle.laws.specs.StepKeeps.{step-keeps, kept-step}
 use Rattle.sheet.specs.RunLaws.{below}
-use Rattle.sheet.specs.Printed.{Printed, printFrom}
+use Rattle.sheet.specs.SheetPrinted.{Printed, printFrom}
 use Rattle.sheet.specs.PrintLaws.{print-end, print-refused, print-on, print-head, print-records}
 use Rattle.sheet_counts.specs.declared.Tally.{Tally}
 use Rattle.sheet_counts.specs.Answers.{Answered, answerTo, answersFrom, isRefused, isStart, howMany, countsIn, countsOf}
 use Rattle.sheet_counts.specs.HowMany.{how-many-next}
 use Rattle.sheet_counts.specs.Telling.{told}
 use Rattle.sheet_counts.specs.AnswerCases.{answers-end, answers-refused, answers-on, answers-head, answers-records}
-use Rattle.sheet_counts.specs.Fresh.{fresh-sound}
+use Rattle.sheet_counts.specs.FreshSheet.{fresh-sound}
 
 -- one answer more
 abbrev pub oneMore : ℕ → ℕ → Tally → Tally

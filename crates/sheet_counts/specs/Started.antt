@@ -19,13 +19,13 @@ use Rattle.rules.specs.Sound.{sound, kept, taskPart}
 use Rattle.rules.specs.Step.{arg, rules, Rule, step, entered}
 use Rattle.rules.specs.Book.{Book, Column, enter, enterStart, opening}
 use Rattle.rules.specs.Demand.{accepted, next, sessionAfter, bookAfter}
-use Rattle.record.specs.Reading.{recordAt}
+use Rattle.record.specs.RecordReading.{recordAt}
 use Rattle.record.specs.Sheet.{headRefusal, firstRecord}
 use Rattle.laws.specs.Rows.Name.{counts, kinds, taskParts}
 use Rattle.laws.specs.ByName.{by-name}
 use Rattle.laws.specs.Counting.{count-same, count-one}
 use Rattle.laws.specs.Column.{set-here, set-there}
-use Rattle.laws.specs.Fresh.{fresh-kept}
+use Rattle.laws.specs.FreshKept.{fresh-kept}
 use Rattle.laws.specs.Accepted.{rule-at}
 use Rattle.laws.specs.Operations.{proved}
 use Rattle.laws.specs.StepKeeps.{step-keeps}
@@ -37,7 +37,7 @@ use Rattle.laws.specs.RelatedFresh.{related-fresh}
 use Rattle.laws.specs.RelatedStep.{related-step}
 use Rattle.laws.specs.RelatedRuns.{related-next, always-related}
 use Rattle.sheet.specs.Closing.{count-past}
-use Rattle.sheet.specs.Printed.{Printed, printFrom, printSheet}
+use Rattle.sheet.specs.SheetPrinted.{Printed, printFrom, printSheet}
 use Rattle.sheet_counts.specs.Answers.{Answered, answerTo, answersFrom, answersOn, isStart, howMany, countsIn, countsOf}
 use Rattle.sheet_counts.specs.HowMany.{one, how-many-next}
 use Rattle.sheet_counts.specs.AnswerLaws.{alike}

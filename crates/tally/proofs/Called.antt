@@ -7,7 +7,7 @@ use Rattle.session.specs.Table.{Wrote, read, words}
 use Rattle.session.specs.Fresh.{freshSession}
 use Rattle.rules.specs.Formula.{holds}
 use Rattle.rules.specs.Sound.{kept}
-use Rattle.sheet.specs.Printed.{printSheet}
+use Rattle.sheet.specs.SheetPrinted.{printSheet}
 use Rattle.sheet_counts.specs.declared.Tally.{Tally}
 use Rattle.sheet_counts.specs.Answers.{countsOf}
 

@@ -7,7 +7,7 @@ ghost use Rattle.session.specs.Lent.{Becomes};
 ghost use Rattle.session.specs.Fresh.{freshSession};
 ghost use Rattle.rules.specs.Formula.{holds};
 ghost use Rattle.rules.specs.Sound.{kept};
-ghost use Rattle.sheet.specs.Printed.{printSheet};
+ghost use Rattle.sheet.specs.SheetPrinted.{printSheet};
 ghost use Rattle.sheet_counts.specs.Answers.{countsOf};
 ghost use Rattle.tally.specs.Raise.{sumTo, raise};
 use sheet_counts::Tally;

@@ -2,5 +2,5 @@ pub mod Text
 pub mod TextLaws
 pub mod SheetLength
 pub mod Put
-pub mod Printed
+pub mod TextPrinted
 pub mod PrintedLaws

@@ -16,7 +16,7 @@ use Rattle.rules.specs.FormulaLaws.{choose-yes, choose-no, choose-case}
 use Rattle.text.specs.Text.{after, isBad, lineAfter, badLineFrom, badLine, sheetOf}
 use Rattle.text.specs.SheetLength.{sheet-short}
 use Rattle.text.specs.Put.{Put}
-use Rattle.text.specs.Printed.{printed, printedMemory, lineText, tooLong, most, printedOf, roomFor}
+use Rattle.text.specs.TextPrinted.{printed, printedMemory, lineText, tooLong, most, printedOf, roomFor}
 use Rattle.text.specs.declared.Mode.{Mode}
 use Rattle.text.specs.declared.Mode.the-variants.{Between}
 use Rattle.text.specs.declared.printed.Printed.{Printed}

@@ -6,7 +6,7 @@ use native.Mathlib.Omega.{arith}
 use lib.ListN.{length, length-append}
 use Rattle.number.specs.Number.{limit32, encode}
 use Rattle.number.specs.Encode.{Groups, groups, encode-one, encode-several}
-use Rattle.number.specs.Laws.{length-some}
+use Rattle.number.specs.NumberRoundTrip.{length-some}
 use Rattle.rules.specs.Formula.{Formula._≼_}
 use Rattle.rules.specs.FormulaLaws.{choose-case}
 use Rattle.text.specs.Text.{kindOf, longer, afterWord, afterComment, after, isWord, ended, numbersFrom, numbers, encodeAll}

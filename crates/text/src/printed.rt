@@ -5,7 +5,7 @@ ghost use mathlib.Core.Path.{_≡_};
 ghost use Prim.Native.Nat.{_+_, _≤_};
 ghost use lib.ListN.{length};
 ghost use Rattle.text.specs.Put.{Put};
-ghost use Rattle.text.specs.Printed.{printed, printedMemory, lineText, printedOf, roomFor};
+ghost use Rattle.text.specs.TextPrinted.{printed, printedMemory, lineText, printedOf, roomFor};
 
 // The longest text that is turned into a sheet.
 const MOST: usize = 262144;

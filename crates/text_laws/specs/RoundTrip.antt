@@ -11,16 +11,16 @@ use Rattle.rules.specs.FormulaLaws.{Case, decide, passed, choose-yes, choose-no
 use Rattle.rules.specs.Step.{arg, lastCode}
 use Rattle.record.specs.declared.Place.the-variants.{Behind, Refused}
 use Rattle.rules.specs.Arity.{fieldCount, nameOf}
-use Rattle.record.specs.Reading.{placed, recordAt}
+use Rattle.record.specs.RecordReading.{placed, recordAt}
 use Rattle.record.specs.Writing.{fieldBytes, recordBytes, isRecordable, within}
-use Rattle.record.specs.Laws.{record-forward}
+use Rattle.record.specs.RecordRoundTrip.{record-forward}
 use Rattle.record.specs.Sheet.{Contents, stopped, recordsFrom, recordsBytes, contents, headAt, headRefusal, firstRecord}
 use Rattle.record.specs.Sheet.{sheetOf as sheetOfOperations}
 use Rattle.record.specs.SheetLaws.{AllRecordable, sheet-again, AllRecordable.none, AllRecordable.one}
 use Rattle.record.specs.SheetLaws.{followed-on, followed-stop, records-end, records-next}
 use Rattle.text.specs.Text.{kindOf, longer, afterWord, after, isBad, isWord, ended, numbers, badLine, encodeAll, sheetOf}
 use Rattle.text.specs.TextLaws.{encodeAll-none, encodeAll-one, encodeAll-append}
-use Rattle.text.specs.Printed.{most, printedOf}
+use Rattle.text.specs.TextPrinted.{most, printedOf}
 use Rattle.text.specs.PrintedLaws.{printed-sheet}
 use Rattle.text.specs.declared.Mode.the-variants.{Between, Word, Comment}
 use Rattle.listing.specs.Listing.{one as firstLine, fieldText, fieldsText, line, lines, recordsText, textOf}

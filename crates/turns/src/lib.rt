@@ -3,7 +3,7 @@ ghost use Prim.Native.Nat.{_≤_};
 ghost use mathlib.Core.Path.{_≡_};
 ghost use lib.ListN.{length, take, drop};
 ghost use Rattle.rules.specs.Formula.{choose, Formula._≼_};
-ghost use Rattle.turns.specs.Places.{least};
+ghost use Rattle.turns.specs.MemoryPlaces.{least};
 
 // Of two turned-in sheets, the earlier in the file first, the one that supersedes, as the lender's own bytes: that with the higher
 // turn, and of equal turns the later.

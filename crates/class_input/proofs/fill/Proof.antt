@@ -4,7 +4,7 @@ use mathlib.Core.Path.{sym}
 use native.Mathlib.Omega.{arith}
 use lib.Seq.{length-take-le}
 use Rattle.class_input.specs.Ahead.{behind}
-use Rattle.class_input.specs.Reads.{least-both, filled-same, filled-new}
+use Rattle.class_input.specs.WindowLaws.{least-both, filled-same, filled-new}
 use borrow.Author.Needs.{needs}
 use Rattle.class_input.proofs.fill.Statement.{statement}
 use Rattle.class_input.proofs.fill.Tie as tie

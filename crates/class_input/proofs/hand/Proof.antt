@@ -2,7 +2,7 @@
 use Prim.Native.Nat.{_+_, _-_}
 use native.Mathlib.Omega.{arith}
 use borrow.Rule.Slice.PartMut.{mid-len}
-use Rattle.class_input.specs.Reads.{least-both}
+use Rattle.class_input.specs.WindowLaws.{least-both}
 use borrow.Author.Needs.{needs}
 use Rattle.class_input.proofs.hand.Statement.{statement}
 use Rattle.class_input.proofs.hand.Tie as tie

@@ -2,7 +2,7 @@
 use Prim.Native.Nat.{_+_}
 use native.Mathlib.Omega.{arith}
 use Rattle.class_input.specs.Ahead.{behind}
-use Rattle.class_input.specs.Reads.{is-least}
+use Rattle.class_input.specs.WindowLaws.{is-least}
 use borrow.Author.Needs.{needs}
 use Rattle.class_input.proofs.may_read.Statement.{statement}
 use Rattle.class_input.proofs.may_read.Tie as tie

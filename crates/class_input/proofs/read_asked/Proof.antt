@@ -4,7 +4,7 @@ use mathlib.Core.Path.{refl, sym, _∙_}
 use mathlib.Core.Logic.{inl, inr}
 use native.Mathlib.Omega.{arith}
 use Rattle.class.specs.Halves.{free-most}
-use Rattle.class_input.specs.Reads.{least-both, apart-same, given-none, given-read}
+use Rattle.class_input.specs.WindowLaws.{least-both, apart-same, given-none, given-read}
 use borrow.Author.Tests.{eqb-false}
 use borrow.Author.Needs.{needs}
 use Rattle.class_input.proofs.read_asked.Statement.{statement}

@@ -1,6 +1,6 @@
 -- `class_input::read_rest` meets its contract: nothing changes but what lies between the two places.
 use native.Mathlib.Omega.{arith}
-use Rattle.class_input.specs.Reads.{apart-read}
+use Rattle.class_input.specs.WindowLaws.{apart-read}
 use borrow.Author.Needs.{needs}
 use Rattle.class_input.proofs.read_rest.Statement.{statement}
 use Rattle.class_input.proofs.read_rest.Tie as tie

@@ -1,7 +1,7 @@
 -- `class_report::gather` meets its contract: the line lies within the memory behind the lines before it.
 use native.Mathlib.Omega.{arith}
 use Rattle.lines.specs.LineLaws.{splice-tail}
-use Rattle.class_report.specs.Stepped.{stepOn}
+use Rattle.class_report.specs.ProgramStepped.{stepOn}
 use borrow.Author.Needs.{needs}
 use Rattle.class_report.proofs.gather.Statement.{statement}
 use Rattle.class_report.proofs.gather.Tie as tie

@@ -13,7 +13,7 @@ use Rattle.class.specs.Steps.{begun}
 use Rattle.class.specs.Halves.{InHalf}
 use Rattle.class_input.specs.Ahead.{Ahead, ahead-begun}
 use Rattle.class_input.specs.Window.{Inside, sizeOf}
-use Rattle.class_report.specs.Stepped.{step-half, stepped-ahead}
+use Rattle.class_report.specs.ProgramStepped.{step-half, stepped-ahead}
 use Rattle.class_report.proofs.main.Statement.{statement}
 use Rattle.class_report.proofs.main.Tie as tie
 

@@ -6,7 +6,7 @@ use borrow.Author.Needs.{needs}
 use lib.ListN.{length, length-set}
 use Rattle.number.specs.Number.{encode, splice}
 use Rattle.number.specs.Encode.{encode-one, encode-several}
-use Rattle.number.specs.Laws.{length-some}
+use Rattle.number.specs.NumberRoundTrip.{length-some}
 use Rattle.number.specs.Splice.{splice-step, splice-one, written-fits, written-not, memory-fits, memory-not}
 use Rattle.number.specs.declared.Written.the-variants.{Used}
 use Rattle.number.proofs.write.Statement.{statement}

@@ -1,6 +1,6 @@
 -- `record::refuse` meets its contract: five places of which none is taken are five zeros.
 use mathlib.Core.Path.{refl}
-use Rattle.record.specs.Reading.{five}
+use Rattle.record.specs.RecordReading.{five}
 use Rattle.record.proofs.refuse.Statement.{statement}
 use Rattle.record.proofs.refuse.Tie as tie
 

@@ -8,7 +8,7 @@ use Rattle.session.specs.Table.{read}
 use Rattle.rules.specs.Formula.{holds}
 use Rattle.rules.specs.FormulaLaws.{passed, failed}
 use Rattle.rules.specs.Sound.{sound}
-use Rattle.record.specs.Laws.{record-refusals}
+use Rattle.record.specs.RecordRoundTrip.{record-refusals}
 use Rattle.sheet.specs.Run.{hasRoom}
 use Rattle.sheet.specs.Going.{linesOf, goes-full, goes-unsound, goes-refused, goes-on}
 use borrow.Author.Needs.{needs}

@@ -1,6 +1,6 @@
 -- `sheet_counts::count_fresh` meets its contract: one refused answer where the first number is refused, and else the records.
 use mathlib.Core.Path.{sym, _∙_}
-use Rattle.sheet_counts.specs.Fresh.{fresh-keeps, whole-refused, whole-behind}
+use Rattle.sheet_counts.specs.FreshSheet.{fresh-keeps, whole-refused, whole-behind}
 use borrow.Author.Needs.{needs}
 use Rattle.sheet_counts.proofs.count_fresh.Statement.{statement}
 use Rattle.sheet_counts.proofs.count_fresh.Tie as tie

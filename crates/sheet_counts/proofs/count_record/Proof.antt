@@ -1,7 +1,7 @@
 -- `sheet_counts::count_record` meets its contract: a record is refused as it is read, or its operation is run.
 use mathlib.Core.Path.{ap, sym, _∙_}
 use Rattle.laws.specs.ByName.{kept-sound}
-use Rattle.sheet_counts.specs.Counting.{goes-stopped, goes-on}
+use Rattle.sheet_counts.specs.CountingRun.{goes-stopped, goes-on}
 use borrow.Author.Needs.{needs}
 use Rattle.sheet_counts.proofs.count_record.Statement.{statement}
 use Rattle.sheet_counts.proofs.count_record.Tie as tie

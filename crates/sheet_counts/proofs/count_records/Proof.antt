@@ -4,8 +4,8 @@ use Prim.Native.Nat.{_-_}
 use mathlib.Core.Path.{_∙_}
 use native.Mathlib.Omega.{arith}
 use lib.ListN.{length}
-use Rattle.sheet_counts.specs.Counting.{Running, running-first, running-few, running-end, running-stop, running-on}
-use Rattle.sheet_counts.specs.Counting.{onward-of}
+use Rattle.sheet_counts.specs.CountingRun.{Running, running-first, running-few, running-end, running-stop, running-on}
+use Rattle.sheet_counts.specs.CountingRun.{onward-of}
 use borrow.Author.Needs.{needs}
 use Rattle.sheet_counts.proofs.count_records.Statement.{statement}
 use Rattle.sheet_counts.proofs.count_records.Tie as tie

@@ -6,7 +6,7 @@ use mathlib.Core.Path.{sym}
 use native.Mathlib.Omega.{arith}
 use lib.ListN.{take}
 use lib.Seq.{length-take-le}
-use Rattle.text.specs.Printed.{printedOf}
+use Rattle.text.specs.TextPrinted.{printedOf}
 use Rattle.text.specs.PrintedLaws.{Whole, printed-whole}
 use borrow.Author.Needs.{needs}
 use Rattle.text_to_sheet.proofs.main.Statement.{statement}

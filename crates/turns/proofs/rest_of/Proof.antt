@@ -5,7 +5,7 @@ use native.Mathlib.Omega.{arith}
 use lib.ListN.{length, drop, length-drop}
 use lib.Seq.{take-all}
 use borrow.Author.Needs.{needs}
-use Rattle.turns.specs.Places.{drop-least}
+use Rattle.turns.specs.MemoryPlaces.{drop-least}
 use Rattle.turns.proofs.rest_of.Statement.{statement}
 use Rattle.turns.proofs.rest_of.Tie as tie
 

@@ -5,7 +5,7 @@ use mathlib.Core.Path.{sym, ap, _∙_}
 use lib.ListN.{take}
 use lib.Seq.{length-take-le}
 use borrow.Author.Needs.{needs}
-use Rattle.turns.specs.Places.{take-least}
+use Rattle.turns.specs.MemoryPlaces.{take-least}
 use Rattle.turns.proofs.sheet_in.Statement.{statement}
 use Rattle.turns.proofs.sheet_in.Tie as tie
 

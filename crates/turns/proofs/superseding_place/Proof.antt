@@ -3,7 +3,7 @@ use mathlib.Core.Path.{ap, _∙_}
 use borrow.Author.Needs.{needs}
 use Rattle.rules.specs.Formula.{Formula._≼_}
 use Rattle.rules.specs.FormulaLaws.{choose-yes, choose-no}
-use Rattle.turns.specs.Places.{chosen-place}
+use Rattle.turns.specs.MemoryPlaces.{chosen-place}
 use Rattle.turns.proofs.superseding_place.Statement.{statement}
 use Rattle.turns.proofs.superseding_place.Tie as tie
 

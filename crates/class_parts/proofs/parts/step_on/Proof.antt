@@ -4,7 +4,7 @@ use mathlib.Core.Path.{refl, ap, _∙_}
 use lib.ListN.{length}
 use native.Mathlib.Omega.{arith}
 use borrow.Author.Needs.{needs}
-use Rattle.turns.specs.Places.{least}
+use Rattle.turns.specs.MemoryPlaces.{least}
 use Rattle.class_parts.specs.ReportParts.{handed-bytes, stepped-on}
 use Rattle.class_parts.proofs.parts.step_on.Statement.{statement}
 use Rattle.class_parts.proofs.parts.step_on.Tie as tie

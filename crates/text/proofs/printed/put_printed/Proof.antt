@@ -3,7 +3,7 @@ use Prim.Native.Nat.{_≤_, _<_}
 use mathlib.Core.Path.{sym}
 use native.Mathlib.Omega.{arith}
 use lib.ListN.{length}
-use Rattle.text.specs.Printed.{roomFor}
+use Rattle.text.specs.TextPrinted.{roomFor}
 use Rattle.text.specs.PrintedLaws.{none-printed, none-memory, printed-put}
 use borrow.Author.Needs.{needs}
 use Rattle.text.proofs.printed.put_printed.Statement.{statement}

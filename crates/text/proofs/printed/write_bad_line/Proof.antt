@@ -1,6 +1,6 @@
 -- `text::write_bad_line` meets its contract: its three parts, one behind the other.
 use native.Mathlib.Omega.{arith}
-use Rattle.text.specs.Printed.{lineText}
+use Rattle.text.specs.TextPrinted.{lineText}
 use Rattle.text.specs.PrintedLaws.{line-length}
 use Rattle.text.specs.Put.{put-then}
 use borrow.Author.Needs.{needs}

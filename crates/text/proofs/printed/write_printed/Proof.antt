@@ -7,7 +7,7 @@ use native.Mathlib.Nat.{zero-add}
 use lib.ListN.{length}
 use Rattle.text.specs.Text.{answer, memory}
 use Rattle.text.specs.TextLaws.{Says, says}
-use Rattle.text.specs.Printed.{most, lineText, printedOf, roomFor}
+use Rattle.text.specs.TextPrinted.{most, lineText, printedOf, roomFor}
 use Rattle.text.specs.PrintedLaws.{printed-long, printed-sheet, printed-line, printed-short}
 use Rattle.text.specs.Put.{Put}
 use Rattle.text.specs.declared.Typed.{Typed}

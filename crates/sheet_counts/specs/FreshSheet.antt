@@ -10,14 +10,14 @@ use Rattle.rules.specs.FormulaLaws.{choose-yes, choose-no}
 use Rattle.rules.specs.Sound.{sound, kept}
 use Rattle.record.specs.declared.Place.the-variants.{Behind, Refused}
 use Rattle.record.specs.Sheet.{headRefusal, headAt}
-use Rattle.laws.specs.Fresh.{fresh-kept}
+use Rattle.laws.specs.FreshKept.{fresh-kept}
 use Rattle.laws.specs.ByName.{kept-sound}
 use Rattle.sheet.specs.WholeSheet.{head-first, head-number}
-use Rattle.sheet.specs.Printed.{Printed, printSheet}
+use Rattle.sheet.specs.SheetPrinted.{Printed, printSheet}
 use Rattle.sheet.specs.PrintLaws.{print-head, print-records}
 use Rattle.sheet_counts.specs.Answers.{answered, isRefused, isStart, howMany, countsIn, countsOf}
 use Rattle.sheet_counts.specs.AnswerCases.{answers-head, answers-records}
-use Rattle.sheet_counts.specs.Counting.{tallyOf, leftFrom, countsFrom}
+use Rattle.sheet_counts.specs.CountingRun.{tallyOf, leftFrom, countsFrom}
 
 pub fresh-sound : holds (sound freshSession)
 fresh-sound = kept-sound freshSession fresh-kept

@@ -10,11 +10,11 @@ use Rattle.rules.specs.FormulaLaws.{choose-yes, choose-no}
 use Rattle.rules.specs.Sound.{sound, kept}
 use Rattle.rules.specs.Step.{step}
 use Rattle.rules.specs.LastLine.{droppedCount}
-use Rattle.record.specs.Reading.{recordAt}
-use Rattle.record.specs.Laws.{record-forward}
+use Rattle.record.specs.RecordReading.{recordAt}
+use Rattle.record.specs.RecordRoundTrip.{record-forward}
 use Rattle.laws.specs.ByName.{kept-sound}
 use Rattle.laws.specs.StepKeeps.{step-keeps}
-use Rattle.sheet.specs.Printed.{Printed, printFrom}
+use Rattle.sheet.specs.SheetPrinted.{Printed, printFrom}
 use Rattle.sheet.specs.PrintLaws.{print-end, print-refused, print-on, prints-enough}
 use Rattle.sheet_counts.specs.declared.Tally.{Tally}
 use Rattle.sheet_counts.specs.declared.Told.{Told}

@@ -10,15 +10,15 @@ use lib.ListN.{length, drop, length-append, take-append-drop}
 use Rattle.number.specs.Number.{AreBytes, limit32, encode, splice, valueOf}
 use Rattle.number.specs.Encode.{encode-one}
 use Rattle.number.specs.Splice.{splice-from, splice-is}
-use Rattle.number.specs.Laws.{read-back, rewritten, value-next, length-some, stands-behind}
+use Rattle.number.specs.NumberRoundTrip.{read-back, rewritten, value-next, length-some, stands-behind}
 use Rattle.rules.specs.declared.Operation.{Operation}
 use Rattle.rules.specs.Arity.{isCode, fieldCount, fields-few}
 use Rattle.rules.specs.Checks.{refusal}
 use Rattle.rules.specs.Formula.{holds, Formula._≐_, Formula._≼_}
 use Rattle.rules.specs.FormulaLaws.{choose-yes}
 use Rattle.rules.specs.Step.{arg}
-use Rattle.record.specs.Reading.{place, nth, five, operation, operationAt, codeAt, firstField, countAt, recordChecks}
-use Rattle.record.specs.Reading.{recordAt}
+use Rattle.record.specs.RecordReading.{place, nth, five, operation, operationAt, codeAt, firstField, countAt, recordChecks}
+use Rattle.record.specs.RecordReading.{recordAt}
 use Rattle.record.specs.Refusals.{refusal-none, refusal-most, answered-number}
 use Rattle.record.specs.Fields.{five-same, five-at, fieldBytes-same, fieldBytes-length, AllRead, fields-back, fields-onward}
 use Rattle.record.specs.Fields.{fields-again}

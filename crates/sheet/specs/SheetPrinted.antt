@@ -10,7 +10,7 @@ use Rattle.session.specs.Fresh.{freshSession}
 use Rattle.rules.specs.Formula.{test, choose, not, Formula._≐_, Formula._≼_}
 use Rattle.rules.specs.Sound.{sound}
 use Rattle.rules.specs.Step.{step}
-use Rattle.record.specs.Reading.{recordAt}
+use Rattle.record.specs.RecordReading.{recordAt}
 use Rattle.record.specs.Sheet.{headRefusal, firstRecord}
 use Rattle.sheet.specs.declared.Next.{Next}
 use Rattle.sheet.specs.declared.Next.the-variants.{At, LastLine, Nothing}

@@ -14,11 +14,11 @@ use Rattle.session.specs.Fresh.{freshSession}
 use Rattle.class.specs.declared.Stage.{Stage}
 use Rattle.class.specs.declared.Stage.the-variants.{Nothing}
 use Rattle.class_rules.specs.Report.{report}
-use Rattle.class.specs.Standing.{reportFrom}
+use Rattle.class.specs.StillPrinted.{reportFrom}
 use Rattle.class.specs.Steps.{begun, asks, asksAt, doesAt, fedTo, isOver, over-nothing, not-over}
 use Rattle.class.specs.Begun.{begun-report}
 use Rattle.class.specs.Chains.{State, state, Went, still, further, said, onward, stepsLeft, steps-fewer}
-use Rattle.turns.specs.Places.{least}
+use Rattle.turns.specs.MemoryPlaces.{least}
 use Rattle.class_parts.specs.ReportParts.{Reported, part-prints}
 use Rattle.number.specs.Fed.{start}
 use Rattle.class_parts.specs.declared.Part.{Part}

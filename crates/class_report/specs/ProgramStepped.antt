@@ -12,7 +12,7 @@ use Rattle.class.specs.Steps.{Did, does}
 use Rattle.class.specs.Halves.{freeHalf, InHalf, free-half, does-half}
 use Rattle.class_input.specs.Ahead.{Ahead, step-ahead}
 use Rattle.class_input.specs.Window.{part}
-use Rattle.class_input.specs.Reads.{part-length}
+use Rattle.class_input.specs.WindowLaws.{part-length}
 
 -- the step on what lies between two places of the memory
 abbrev pub stepOn : List ℕ → ℕ → ℕ → Report → List ℕ → Did

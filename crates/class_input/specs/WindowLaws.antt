@@ -11,7 +11,7 @@ use Rattle.number.specs.Number.{splice}
 use Rattle.number.specs.Splice.{splice-length, splice-before, splice-from, splice-behind}
 use Rattle.rules.specs.Formula.{Formula._≼_}
 use Rattle.rules.specs.FormulaLaws.{choose-case}
-use Rattle.turns.specs.Places.{least}
+use Rattle.turns.specs.MemoryPlaces.{least}
 use Rattle.class.specs.declared.Report.{Report}
 use Rattle.class_rules.specs.Report.{mostBytes}
 use Rattle.class.specs.Steps.{asks}
