@@ -28,23 +28,25 @@ uint64_t faltxigor_fresh(uint64_t *memory, size_t words);
 uint64_t faltxigor_sound(const uint64_t *memory, size_t words);
 
 /* One operation: its code and fields, of which those past what the code has are not looked at. Returns the refusal:
- * 0 accepted, 1 the memory is too short, 2 the session is not sound, 6 to 21 as in document 01. *made is the handle or
- * link made, or 0. A refusal changes nothing in the memory and leaves 0 in *made. The whole session is looked at in each
- * call: for many operations take faltxigor_run. */
+ * 0 accepted, 1 the memory is too short, 2 the session is not sound, 6 to 21 and 24 as docs/REFUSALS.md has them. A single
+ * operation belongs to no edition: every code is taken, 13 too. *made is the handle or link made, or 0. A refusal changes
+ * nothing in the memory and leaves 0 in *made. The whole session is looked at in each call: for many operations take
+ * faltxigor_run. */
 uint64_t faltxigor_apply(uint64_t *memory, size_t words, uint64_t code, uint64_t f0, uint64_t f1, uint64_t f2,
                          uint64_t f3, uint64_t f4, uint64_t *made);
 
-/* Many operations: a sheet, which is the number 1 and then records, each a code and its fields. A number is in groups of
- * seven bits, lowest first, the high bit set on all but the last byte, in the fewest bytes. The answer line of each
- * record goes into `lines` behind the first *used bytes, 32 bytes at most: its number from 1, the refusal, and what was
- * made. A session from faltxigor_fresh that was changed by these functions alone is looked at once, before the first
- * record, and so is any other that every operation keeps sound (docs/DECISIONS.md, "Kept"); the rest at each record.
+/* Many operations: a sheet, which is its edition, 1 or 2, and then records, each a code and its fields; edition 2 has
+ * operation 13 beside the twelve of edition 1. A number is in groups of seven bits, lowest first, the high bit set on all
+ * but the last byte, in the fewest bytes. The answer line of each record goes into `lines` behind the first *used bytes,
+ * 32 bytes at most: its number from 1, the refusal, and what was made. A session from faltxigor_fresh that was changed by
+ * these functions alone is looked at once, before the first record, and so is any other that every operation keeps sound
+ * (docs/DECISIONS.md, "Kept"); the rest at each record.
  *
  * Returns the refusal that ended the sheet, 0 at its end: 1 the session's memory is too short, or under 32 bytes of `lines`
  * are free; 2 the session is not sound; 3 to 6 the sheet's bytes. 2 to 6 have their line too. The refusals of single
- * operations, 7 to 21, are in their lines and end nothing. *used is then the length of the lines; *place the place in the
- * sheet of the record that was not run, or its end; *number the number of the record begun last, 0 for the sheet's first
- * number. Where 1 is met at record 0 nothing has changed; where it is met later, the records before it have been run. */
+ * operations, 7 to 21 and 24, are in their lines and end nothing. *used is then the length of the lines; *place the place
+ * in the sheet of the record that was not run, or its end; *number the number of the record begun last, 0 for the sheet's
+ * first number. Where 1 is met at record 0 nothing has changed; where it is met later, the records before it have been run. */
 uint64_t faltxigor_run(const uint8_t *sheet, size_t sheet_bytes, uint64_t *memory, size_t words, uint8_t *lines,
                        size_t line_bytes, size_t *used, size_t *place, uint64_t *number);
 

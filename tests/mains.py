@@ -34,12 +34,19 @@ LONG = shortest(32768)
 LONGEST = b'\3\7\2' + LONG + bytes([1] + [9, 1] * 16383 + [9]) + b'\7\1' + LONG + bytes(32768) + b'\10\1\0'
 LONGEST_REPORT = b'class 1\n7 2 16384 16384 0 0\n8 1 1 1 0 0\n16385 16385 0 0\n'
 
+# A sheet of edition 2 with a counted event for one link, which goes when that is delivered: 24, 14, and then 11 three times.
+COUNTED = bytes([2, 10, 2, 11, 2, 13, 2, 1, 1, 2, 1, 2, 2, 4, 17, 0, 0, 5, 2, 3, 5, 0, 1, 5, 2, 3, 3, 0, 1, 6, 2, 3, 1, 0,
+                 6, 2, 3, 0, 0, 9, 1, 6, 2, 3, 0, 0, 5, 2, 3, 3, 0, 1, 8, 2, 3])
+COUNTED_LINES = (b'1 0 0\n2 0 0\n3 0 3\n4 0 4\n5 0 5\n6 0 1\n7 24 0\n8 0 0\n9 14 0\n10 0 0\n11 11 0\n12 11 0\n13 11 0\n'
+                 b'2 0 0\n')
+
 # a program: what it reads, and what it must print
 TRIES = {
     'class_report': [(b'', b'class 1\nstop 3\n'), (CLASS, REPORT), (LONGEST, LONGEST_REPORT)],
-    'ocr_sheet': [(b'', b'0 3 0\n1 0 0\n'), (bytes([2]), b'0 5 0\n1 0 0\n'), (bytes([1] + [9, 1] * DELIVERIES), REFUSED)],
+    'ocr_sheet': [(b'', b'0 3 0\n1 0 0\n'), (bytes([3]), b'0 5 0\n1 0 0\n'), (bytes([1] + [9, 1] * DELIVERIES), REFUSED),
+                  (COUNTED, COUNTED_LINES), (bytes([1, 13, 2, 1]), b'1 6 0\n1 0 0\n')],
     'text_to_sheet': [(b'1 # a sheet\n10 2\n', bytes([1, 10, 2])), (b'1\n10 two\n', b'line 2\n')],
-    'sheet_to_text': [(bytes([1, 10, 2]), b'1\n10 2  # grant\n')],
+    'sheet_to_text': [(bytes([1, 10, 2]), b'1\n10 2  # grant\n'), (bytes([2, 13, 2, 1]), b'2\n13 2 1  # counted\n')],
 }
 
 # a program, whether the edit is harmless, the file below crates, old text, new text

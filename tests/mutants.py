@@ -34,6 +34,9 @@ FINISH = RUNS + [(1, 2, 0), (2, 2, 3, 17, 1, 1), (10, 4), (11, 4)]
 STICKY = RUNS + [(3, 2, 3), (3, 2, 2)]
 LINKED = RUNS + [(3, 2, 1), (1, 2, 1), (2, 2, 4, 17, 0, 0), (5, 2, 3, 5, 0, 1)]
 CHAINED = RUNS + [(3, 2, 1), (3, 2, 1), (5, 2, 3, 4, 0, 1)]
+# Counted event 3 for one link, which leads to idempotent 4, or to itself.
+COUNTED = RUNS + [(13, 2, 1), (3, 2, 2), (5, 2, 3, 4, 0, 1)]
+TO_ITSELF = RUNS + [(13, 2, 1), (5, 2, 3, 3, 0, 1)]
 
 # name; the claim that fails; the calls; the file of `rules`, old text, new text. The claims, with what they are about:
 # sound, the rule that fails, a live task that lacks nothing; starts-once, starts-ready, stuck: the task; finish-fires: the
@@ -104,6 +107,21 @@ MUTANTS = [
     ('drop-counts-twice', ('sound', 'dropped', 2),
      RUNS + [(3, 2, 3), (3, 2, 3), (6, 2, 3, 0, 0), (6, 2, 4, 0, 0), (5, 2, 3, 4, 0, 1), (9, 1)],
      'Effects', '(s Dropped 0 + 1)', '(s Dropped 0 + 2)'),
+    # a counted event that has served its count and is there still
+    ('served-event-stays', ('sound', 'countedEvents', 2), COUNTED + [(6, 2, 3, 0, 0), (9, 1)],
+     'Effects', 'choose (servesLast s l) destroyedFired (s EventState e)', 'choose (servesLast s l) fired (s EventState e)'),
+    ('dropped-delivery-does-not-count', ('sound', 'countedEvents', 2), TO_ITSELF + [(6, 2, 3, 0, 0), (9, 1)],
+     'Effects', 'deliver s l = bring (expire s l) l',
+     'deliver s l = bring (choose (drops s (s LinkTarget l) (s LinkSlot l)) s (expire s l)) l'),
+    ('served-event-goes-unfired', ('sound', 'links', 2), COUNTED + [(6, 2, 3, 0, 0), (9, 1)],
+     'Effects', 'choose (servesLast s l) destroyedFired (s EventState e)', 'choose (servesLast s l) destroyedUnfired (s EventState e)'),
+    ('link-past-the-count', ('sound', 'countedEvents', 2), COUNTED + [(5, 2, 3, 4, 0, 1)],
+     'Checks', 'check 24 (makesLink source then not (hasItsCount s source))', 'check 24 (makesLink source then made s source)'),
+    ('link-more-than-the-count', ('sound', 'countedEvents', 2), COUNTED + [(5, 2, 3, 4, 0, 1)],
+     'Reading', 'hasItsCount e = isCounted e and s EventCount e ≼ linksFrom e',
+     'hasItsCount e = isCounted e and s EventCount e + 1 ≼ linksFrom e'),
+    ('count-0-admitted', ('sound', 'objects', 2), RUNS + [(13, 2, 0)],
+     'Checks', 'check 7 (isLinkCount n)', 'check 7 (n ≐ 0 or isLinkCount n)'),
 ]
 
 # name of the mutant whose claim is tried, old text (in the mutant's file), new text that says the same
@@ -113,6 +131,11 @@ HARMLESS = [
     ('grant-checks-one-slot', '(each (s TaskSlots t) (λ j. slotFree t (at t j)))', '(each 16 (λ j. slotFree t (at t j)))'),
     ('start-from-resolved', '(s TaskState t ≐ granted) ∷ []', '(granted ≐ s TaskState t) ∷ []'),
     ('hold-in-RW-stops-nobody', 'stoppedBy asked held = conflict asked held', 'stoppedBy asked held = conflict held asked'),
+    ('served-event-stays', 'choose (servesLast s l) destroyedFired (s EventState e)',
+     'choose (not (servesLast s l)) (s EventState e) destroyedFired'),
+    ('link-past-the-count', 'check 24 (makesLink source then not (hasItsCount s source))',
+     'check 24 (not (makesLink source and hasItsCount s source))'),
+    ('count-0-admitted', 'check 7 (isLinkCount n)', 'check 7 (1 ≼ n and isLinkCount n)'),
 ]
 
 # of each claim: the claim itself; what is computed with it; the law of Counterexample.antt.txt that refutes demand 3

@@ -13,12 +13,15 @@ def printed(program, file):
     return subprocess.run([program], input=file, stdout=subprocess.PIPE, check=True).stdout
 
 
-def drawn(generator, seed, count, folder):
-    """The generator's files, in order."""
-    subprocess.run([generator, seed, str(count), folder], check=True, stdout=subprocess.DEVNULL)
-    for name in sorted(os.listdir(folder)):
-        with open(os.path.join(folder, name), 'rb') as file:
-            yield name, file.read()
+def drawn(generator, seed, count, more):
+    """The generator's files, in order, where it was told these words too."""
+    files = []
+    with tempfile.TemporaryDirectory() as folder:
+        subprocess.run([generator, seed, str(count), folder, *more], check=True, stdout=subprocess.DEVNULL)
+        for name in sorted(os.listdir(folder)):
+            with open(os.path.join(folder, name), 'rb') as file:
+                files.append((' '.join([name, *more]), file.read()))
+    return files
 
 
 def varied(name, file):
@@ -31,9 +34,8 @@ def varied(name, file):
         yield '%s byte %d changed' % (name, place), bytes(changed)
 
 
-def cases(generator, seed, count, few, folder):
-    """All files that are drawn, and what is made of a few short ones."""
-    files = list(drawn(generator, seed, count, folder))
+def cases(files, few):
+    """All files that were drawn, and what is made of a few short ones."""
     yield from files
     short = [case for case in files if 60 <= len(case[1]) <= SHORT][:few]
     assert len(short) == few, 'too few short files were drawn'
@@ -41,17 +43,19 @@ def cases(generator, seed, count, few, folder):
         yield from varied(*case)
 
 
-def compared(program, second, generator, seed, count, few):
-    """Prints each file on which the two programs differ, and `N passed, M failed`; the exit status."""
+def compared(program, second, generator, seed, count, few, kinds=((),)):
+    """Prints each file on which the two programs differ, and `N passed, M failed`; the exit status. Of each kind, the words that the
+    generator is told too, as many files are drawn."""
     passed, failed = 0, 0
 
     def agrees(case):
         return case[0], printed(program, case[1]) == printed(second, case[1])
 
-    with tempfile.TemporaryDirectory() as folder, concurrent.futures.ThreadPoolExecutor(AT_ONCE) as pool:
-        for name, same in pool.map(agrees, cases(generator, seed, count, few, folder)):
-            passed, failed = passed + same, failed + (not same)
-            if not same:
-                print('%s: the two programs print other lines' % name)
+    with concurrent.futures.ThreadPoolExecutor(AT_ONCE) as pool:
+        for files in list(pool.map(lambda more: drawn(generator, seed, count, more), kinds)):
+            for name, same in pool.map(agrees, cases(files, few)):
+                passed, failed = passed + same, failed + (not same)
+                if not same:
+                    print('%s: the two programs print other lines' % name)
     print('%d passed, %d failed' % (passed, failed))
-    return 1 if failed or passed < count else 0
+    return 1 if failed or passed < count * len(kinds) else 0

@@ -1,8 +1,8 @@
 #!/usr/bin/env python3
 """random_sheets.py PROGRAM: the sheet program beside the second engine's, on random sheets, lines compared byte by byte.
 
-2,000 sheets of the second engine's generator (some cut short, some with bits flipped); then of some short ones every cut, and
-every byte changed. Prints each difference and last `N passed, M failed`.
+2,000 sheets of each edition of the second engine's generator (some cut short, some with bits flipped); then of some short ones every
+cut, and every byte changed. Prints each difference and last `N passed, M failed`.
 """
 import os
 import sys
@@ -14,6 +14,7 @@ BUILT = os.path.join(ROOT, 'tests', 'second', 'target', 'release')
 COUNT = 2000
 SEED = '20261115'
 FEW = 6
+EDITIONS = [['1'], ['2']]
 
 
 def main():
@@ -21,7 +22,7 @@ def main():
         print(__doc__)
         return 2
     program = os.path.abspath(sys.argv[1])
-    return compared(program, os.path.join(BUILT, 'sheet'), os.path.join(BUILT, 'generate'), SEED, COUNT, FEW)
+    return compared(program, os.path.join(BUILT, 'sheet'), os.path.join(BUILT, 'generate'), SEED, COUNT, FEW, EDITIONS)
 
 
 if __name__ == '__main__':

@@ -1,8 +1,9 @@
 #!/usr/bin/env python3
 """refusals.py PROGRAM: runs every example of docs/REFUSALS.md through a sheet program.
 
-The last answer line of each must have the refusal that the example stands under. The mode rule's sentence stands under 18 word for
-word as it stands over the definition `conflict`. Prints `N passed, M failed`.
+The last answer line of each must have the refusal that the example stands under. An example that begins with the line `2` is run in
+edition 2. The mode rule's sentence stands under 18 word for word as it stands over the definition `conflict`. Prints
+`N passed, M failed`.
 """
 import os
 import re
@@ -15,8 +16,9 @@ import sheets  # noqa: E402  (the reader of sheet lines, in this folder)
 ROOT = os.path.dirname(os.path.dirname(os.path.abspath(__file__)))
 PAGE = os.path.join(ROOT, 'docs', 'REFUSALS.md')
 MODES = os.path.join(ROOT, 'crates', 'rules', 'specs', 'Modes.antt')
-STARTED = ['1', '10 2', '11 2']
+STARTED = ['10 2', '11 2']
 NO_SHEET = {1, 2, 19, 22, 23}
+LAST = 24
 
 
 def text_of(path):
@@ -42,10 +44,17 @@ def has_mode_rule(body):
     return quoted + '.' in ' '.join(body.split())
 
 
-def answered(program, lines, whole):
+def sheet_of(lines, whole):
+    """The bytes of an example, behind the lines that start main unless it is the whole sheet."""
+    if not whole:
+        edition, *records = lines if lines[0] == '2' else ['1'] + lines
+        lines = [edition] + STARTED + records
+    first, last_code = sheets.first_bytes(lines[0].split())
+    return first + b''.join(sheets.record_bytes(line.split(), last_code) for line in lines[1:])
+
+
+def answered(program, data):
     """The refusal of the last answer line."""
-    records = lines if whole else STARTED + lines
-    data = b''.join(sheets.record_bytes(line.split(), place == 0) for place, line in enumerate(records))
     printed = subprocess.run([program], input=data, stdout=subprocess.PIPE, check=True).stdout.decode().splitlines()
     return int(printed[-2].split()[1])
 
@@ -60,7 +69,7 @@ def main():
         lines = example_in(body)
         if number in NO_SHEET and not lines:
             continue
-        got = answered(sys.argv[1], lines, number == 5) if lines else None
+        got = answered(sys.argv[1], sheet_of(lines, number == 5)) if lines else None
         if got == number:
             passed += 1
         else:
@@ -71,9 +80,9 @@ def main():
         elif number == 18:
             failed += 1
             print('docs/REFUSALS.md: under 18 the mode rule is not told in the words of its definition')
-    if seen != set(range(1, 24)):
+    if seen != set(range(1, LAST + 1)):
         failed += 1
-        print('docs/REFUSALS.md: not every refusal from 1 to 23 is there')
+        print('docs/REFUSALS.md: not every refusal from 1 to %d is there' % LAST)
     print('%d passed, %d failed' % (passed, failed))
     return 1 if failed or not passed else 0
 

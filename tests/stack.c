@@ -8,7 +8,7 @@
 
 #include "../include/faltxigor.h"
 
-enum { WORDS = 40518, OBJECTS = 512, LINES = 1024, GUARD = 4096, DEEP = 12288 };
+enum { WORDS = 41031, OBJECTS = 512, LINES = 1024, GUARD = 4096, DEEP = 12288 };
 
 /* A session, and what is to be done on a copy of it. */
 typedef struct {
@@ -47,7 +47,7 @@ static void report(const Work *work, const uint8_t *sheet, size_t length) {
 static void *call_all(void *given) {
     const Work *work = given;
     const uint64_t *c = work->call;
-    const uint8_t sheet[] = {1, (uint8_t)c[0], 2, 0, 0, 0, 0, 10, 2, 11, 2, 1, 2, 1, 13};
+    const uint8_t sheet[] = {2, (uint8_t)c[0], 2, 0, 0, 0, 0, 10, 2, 11, 2, 1, 2, 1, 13, 2, 1, 14};
     uint64_t made, number;
     size_t used = 0, place;
     memcpy(words, work->words, work->count * sizeof *words);
@@ -82,12 +82,13 @@ static void on_a_thread(size_t stack, const uint64_t *memory, size_t count, cons
 
 /* Any call on the memory, each on a thread of its own. */
 static void try_calls(size_t stack, const uint64_t *memory, size_t count, uint64_t last) {
-    for (uint64_t code = 0; code <= 13; code++) {
+    for (uint64_t code = 0; code <= 14; code++) {
         uint64_t on[6] = {code, code < 9 ? 2 : last, code < 9 ? last : 0, 0, 0, 1};
         on_a_thread(stack, memory, count, on);
     }
     on_a_thread(stack, memory, count, (uint64_t[6]){2, last, 3, 17, 1, 1});
     on_a_thread(stack, memory, count, (uint64_t[6]){8, last, last - 1, 0, 0, 0});
+    on_a_thread(stack, memory, count, (uint64_t[6]){13, last, 16, 0, 0, 0});
 }
 
 /* One call that has to be accepted; what it made. */

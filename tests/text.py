@@ -3,8 +3,8 @@
 
     python3 tests/text.py TEXT_TO_SHEET SHEET_TO_TEXT
 
-Of each sheet the text is made here, from document 01 and docs/TEXT.md alone: `sheet_to_text` must print it, and `text_to_sheet`
-must give the bytes back (those that could be read, where the sheet can not be read to its end).
+Of each sheet, of either edition, the text is made here, from documents 01 and 02 and docs/TEXT.md alone: `sheet_to_text` must print
+it, and `text_to_sheet` must give the bytes back (those that could be read, where the sheet can not be read to its end).
 """
 import pathlib
 import subprocess
@@ -13,13 +13,14 @@ import sys
 import by_hand
 import sheets
 
-NAMES = "template task event block dependence satisfy release destroy deliver grant start end".split()
+NAMES = "template task event block dependence satisfy release destroy deliver grant start end counted".split()
 
 # what is typed, and what is answered
 TEXTS = [
     (b"", b""),
     (b"# nothing but a comment", b""),
     (b"1 # one\n10 2#grant\r\n\t007", bytes([1, 10, 2, 7])),
+    (b"2\n13 2 16  # counted\n", bytes([2, 13, 2, 16])),
     (b"4294967295", bytes([255, 255, 255, 255, 15])),
     (b"4294967296", b"line 1\n"),
     (b"1\n# x\n10 2x\n-", b"line 3\n"),
@@ -43,10 +44,10 @@ def read_number(data, at):
     return 0 if good else 4, value, end + 1
 
 
-def read_record(data, at):
-    """The refusal of the record at a place, its numbers, and the place behind it."""
+def read_record(data, at, last_code):
+    """The refusal of the record at a place, where codes go up to the last one, its numbers, and the place behind it."""
     refused, code, at = read_number(data, at)
-    if refused or not 1 <= code <= 12:
+    if refused or not 1 <= code <= last_code:
         return refused or 6, None, None
     values, refusals = [code], []
     for _ in range(sheets.FIELDS[code - 1]):
@@ -61,11 +62,11 @@ def read_record(data, at):
 def text_of(data):
     """The text of a sheet, and the bytes that could be read."""
     refused, first, at = read_number(data, 0)
-    if refused or first != 1:
+    if refused or first not in sheets.LAST_CODE:
         return f"# record 0: refusal {refused or 5}\n".encode(), b""
-    lines = ["1\n"]
+    lines = [f"{first}\n"]
     while at < len(data):
-        refused, values, behind = read_record(data, at)
+        refused, values, behind = read_record(data, at, sheets.LAST_CODE[first])
         if refused:
             return "".join(lines + [f"# record {len(lines)}: refusal {refused}\n"]).encode(), data[:at]
         lines.append(f"{' '.join(map(str, values))}  # {NAMES[values[0] - 1]}\n")

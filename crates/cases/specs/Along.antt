@@ -17,7 +17,8 @@ use Rattle.rules.specs.Checks.{refusal}
 use Rattle.rules.specs.EventTypes.{ofType}
 use Rattle.rules.specs.Effects.{new, newTemplate, newEvent, newTask, makeTask, newBlock, fire, fireOne, satisfySlot, tally}
 use Rattle.rules.specs.Effects.{satisfyEvent, satisfy, claim, newLink, depend, buryDoomed, letGo, release, destroyEvent}
-use Rattle.rules.specs.Effects.{fireFinished, destroyTask, destroyBlock, destroy, drops, deliver, grant, start, end}
+use Rattle.rules.specs.Effects.{fireFinished, destroyTask, destroyBlock, destroy, drops, expire, bring, deliver, grant}
+use Rattle.rules.specs.Effects.{start, end}
 use Rattle.rules.specs.Step.{rules, freshSession, answer, after, outcome, arg, entered}
 use Rattle.rules.specs.Book.{Book, opening, enter, enterObject, enterTask, enterLink, satisfies, strike, enterDestroy}
 use Rattle.rules.specs.Book.{enterDeliver, enterStart, enterEnd, madeBy, live, liveTasks, undeliveredLinks, done}
@@ -43,7 +44,7 @@ answers s l = answer s (l .operation) ≐ l .refused and outcome s (l .operation
 unfoldable pub computed : ℕ
 unfolding put change test ofType count under refusal new newTemplate newEvent newTask makeTask newBlock fire fireOne satisfySlot
     tally satisfyEvent satisfy claim newLink depend buryDoomed letGo release destroyEvent fireFinished destroyTask destroyBlock
-    destroy drops deliver grant start end rules freshSession answer after outcome
+    destroy drops expire bring deliver grant start end rules freshSession answer after outcome
 computed = 0
 
 -- the answers along a list
@@ -112,7 +113,7 @@ firesDone s s′ b′ t =
     ]
 
 abbrev pub moves : Session → Session → Operation → Formula
-moves s s′ o = elim (test (9 ≼ o .code)) [ true ↦ left s ≐ left s′ + 1 | false ↦ 0 ≐ 0 ]
+moves s s′ o = elim (test (9 ≼ o .code and o .code ≼ 12)) [ true ↦ left s ≐ left s′ + 1 | false ↦ 0 ≐ 0 ]
 
 abbrev pub accepts : Session → Session → Book → Book → Operation → Formula
 accepts s s′ b b′ o =

@@ -3,7 +3,10 @@ pub mod DocumentListing
 pub mod Answers1
 pub mod Answers2
 pub mod Answers3
+pub mod Answers4
 pub mod SoundAlong1
 pub mod SoundAlong2
+pub mod SoundAlong3
 pub mod DemandAlong1
 pub mod DemandAlong2
+pub mod DemandAlong3

@@ -4,3 +4,4 @@ pub mod SoundParts
 pub mod HolderList
 pub mod GrantChecks
 pub mod Scan
+pub mod UserEvents

@@ -9,7 +9,7 @@ ghost use Rattle.rules.specs.Formula.{holds};
 ghost use Rattle.rules.specs.Sound.{sound};
 ghost use Rattle.rules.specs.Checks.{refusal, templateChecks, taskChecks, eventChecks, blockChecks, dependenceChecks};
 ghost use Rattle.rules.specs.Checks.{satisfyChecks, releaseChecks, destroyChecks, deliverChecks, grantChecks, startChecks};
-ghost use Rattle.rules.specs.Checks.{endChecks};
+ghost use Rattle.rules.specs.Checks.{endChecks, countedChecks};
 ghost use Rattle.checks.specs.CheckParts.{satisfyOrLinkChecks};
 
 pub mod granting;
@@ -18,7 +18,9 @@ pub mod objects;
 
 use crate::granting::blocks_remain;
 use crate::granting::is_free;
+use crate::objects::has_event_slot;
 use crate::objects::has_room;
+use crate::objects::has_slot;
 use crate::objects::is_block_or_null;
 use crate::objects::is_count;
 use crate::objects::is_destination;
@@ -27,19 +29,19 @@ use crate::objects::is_idle;
 use crate::objects::is_made_or_null;
 use crate::objects::is_source;
 use crate::objects::is_unclaimed;
+use crate::objects::is_user_event;
 use crate::objects::remains_or_null;
-use reading::has_event_slot;
-use reading::has_slot;
+use reading::has_its_count;
 use reading::holds_block;
 use reading::is_fired_sticky;
 use reading::is_gone;
 use reading::is_kind;
 use reading::is_made;
 use reading::is_running;
-use reading::is_user_event;
 use reading::of_link;
 use reading::of_object;
 use reading::overflows;
+use rules::event_types::is_link_count;
 use rules::event_types::is_offered_type;
 use rules::refusals;
 use session::Field;
@@ -111,6 +113,22 @@ pub fn event_refusal(s: &[u64], caller: u64, ty: u64) -> u64
     0
 }
 
+pub fn counted_refusal(s: &[u64], caller: u64, n: u64) -> u64
+    requires { ⌜ words ≤ length (now s) ⌝ }
+    ensures { λ r. ⌜ r ≡ refusal (countedChecks (was s) caller n) ⌝ }
+{
+    if !is_link_count(n) {
+        return refusals::OUT_OF_RANGE;
+    }
+    if !is_running(s, caller) {
+        return refusals::CALLER_NOT_RUNNING;
+    }
+    if !has_room(s, 1) {
+        return refusals::TOO_MANY_OBJECTS;
+    }
+    0
+}
+
 pub fn block_refusal(s: &[u64], caller: u64, hold: u64) -> u64
     requires { ⌜ words ≤ length (now s) ⌝ }
     ensures { λ r. ⌜ r ≡ refusal (blockChecks (was s) caller hold) ⌝ }
@@ -127,12 +145,15 @@ pub fn block_refusal(s: &[u64], caller: u64, hold: u64) -> u64
     0
 }
 
-// The checks of a dependence from 14 on: those of a link, or those of a slot that is satisfied now.
+// The checks of a dependence from 14 on: those of a link, or those of a slot that is satisfied now. The memory is a sound session.
 fn satisfy_or_link_refusal(s: &[u64], source: u64, d: u64, j: u64) -> u64
-    requires { ⌜ words ≤ length (now s) ⌝ }
+    requires { ⌜ (words ≤ length (now s)) × holds (sound (read (now s))) ⌝ }
     ensures { λ r. ⌜ r ≡ refusal (satisfyOrLinkChecks (was s) source d j) ⌝ }
 {
     if is_kind(s, names::EVENT, source) {
+        if has_its_count(s, source) {
+            return refusals::COUNT_REACHED;
+        }
         if names::MOST_LINKS <= session::get(s, Field::Links, 0) {
             return refusals::TOO_MANY_LINKS;
         }
@@ -147,8 +168,9 @@ fn satisfy_or_link_refusal(s: &[u64], source: u64, d: u64, j: u64) -> u64
     0
 }
 
+// Internal, and the memory is a sound session.
 pub fn dependence_refusal(s: &[u64], caller: u64, source: u64, d: u64, j: u64, mode: u64) -> u64
-    requires { ⌜ words ≤ length (now s) ⌝ }
+    requires { ⌜ (words ≤ length (now s)) × holds (sound (read (now s))) ⌝ }
     ensures { λ r. ⌜ r ≡ refusal (dependenceChecks (was s) caller source d j mode) ⌝ }
 {
     if mode < names::RO {
@@ -187,8 +209,9 @@ pub fn dependence_refusal(s: &[u64], caller: u64, source: u64, d: u64, j: u64, m
     satisfy_or_link_refusal(s, source, d, j)
 }
 
+// Internal, and the memory is a sound session.
 pub fn satisfy_refusal(s: &[u64], caller: u64, e: u64, b: u64, j: u64) -> u64
-    requires { ⌜ words ≤ length (now s) ⌝ }
+    requires { ⌜ (words ≤ length (now s)) × holds (sound (read (now s))) ⌝ }
     ensures { λ r. ⌜ r ≡ refusal (satisfyChecks (was s) caller e b j) ⌝ }
 {
     if !is_running(s, caller) {
@@ -246,8 +269,9 @@ pub fn release_refusal(s: &[u64], caller: u64, b: u64) -> u64
     0
 }
 
+// Internal, and the memory is a sound session.
 pub fn destroy_refusal(s: &[u64], caller: u64, h: u64) -> u64
-    requires { ⌜ words ≤ length (now s) ⌝ }
+    requires { ⌜ (words ≤ length (now s)) × holds (sound (read (now s))) ⌝ }
     ensures { λ r. ⌜ r ≡ refusal (destroyChecks (was s) caller h) ⌝ }
 {
     if !is_running(s, caller) {

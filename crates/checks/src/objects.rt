@@ -2,7 +2,6 @@
 use reading::is_gone;
 use reading::is_kind;
 use reading::is_made;
-use reading::is_user_event;
 use reading::of_object;
 use reading::of_slot_at;
 use reading::task_slots;
@@ -13,10 +12,11 @@ ghost use Prim.Native.Nat.{_≤_, _+_};
 ghost use lib.ListN.{length};
 ghost use Rattle.session.specs.declared.Field.the-variants.{Objects, TaskState, SlotMode};
 ghost use Rattle.session.specs.Names.{task, event, block, resolved, mostObjects};
-ghost use Rattle.session.specs.Table.{words, at};
+ghost use Rattle.session.specs.Table.{read, words, at};
 ghost use Rattle.session.specs.Lent.{was};
-ghost use Rattle.rules.specs.Formula.{test, Formula._≐_, Formula._≼_, Formula._or_, Formula._then_};
-ghost use Rattle.rules.specs.Reading.{made, isKind, isUserEvent};
+ghost use Rattle.rules.specs.Formula.{holds, test, Formula._≐_, Formula._≼_, Formula._or_, Formula._then_};
+ghost use Rattle.rules.specs.Sound.{sound};
+ghost use Rattle.rules.specs.Reading.{made, isKind, isUserEvent, hasSlot};
 ghost use Rattle.rules.specs.Checks.{orNull, remains};
 ghost use Rattle.checks.specs.CheckParts.{isCount};
 
@@ -64,9 +64,37 @@ pub fn is_source(s: &[u64], h: u64) -> bool
     is_kind(s, names::EVENT, h)
 }
 
+// Whether an object is an event of a type that a call may name. In a sound session that is any event but an output.
+pub fn is_user_event(s: &[u64], h: u64) -> bool
+    requires { ⌜ (words ≤ length (now s)) × holds (sound (read (now s))) ⌝ }
+    ensures { λ r. ⌜ r ≡ test (isUserEvent (was s) h) ⌝ }
+{
+    (of_object(s, Field::Kind, h) == names::EVENT)
+        & (of_object(s, Field::EventType, h) != names::OUTPUT)
+}
+
+// Whether such an event has a slot of that number: 0, and 1 if it is a latch.
+pub fn has_event_slot(s: &[u64], e: u64, j: u64) -> bool
+    requires { ⌜ (words ≤ length (now s)) × holds (isUserEvent (read (now s)) e) ⌝ }
+    ensures { λ r. ⌜ r ≡ test (hasSlot (was s) e j) ⌝ }
+{
+    (j == 0) | ((j == 1) & (of_object(s, Field::EventType, e) == names::LATCH))
+}
+
+// Whether a task or such an event has a slot of that number.
+pub fn has_slot(s: &[u64], h: u64, j: u64) -> bool
+    requires { ⌜ (words ≤ length (now s)) × holds (isKind (read (now s)) task h or isUserEvent (read (now s)) h) ⌝ }
+    ensures { λ r. ⌜ r ≡ test (hasSlot (was s) h j) ⌝ }
+{
+    if is_kind(s, names::TASK, h) {
+        return j < of_object(s, Field::TaskSlots, h);
+    }
+    has_event_slot(s, h, j)
+}
+
 // What a dependence may lead to: a task, or an event of a type that users make.
 pub fn is_destination(s: &[u64], h: u64) -> bool
-    requires { ⌜ words ≤ length (now s) ⌝ }
+    requires { ⌜ (words ≤ length (now s)) × holds (sound (read (now s))) ⌝ }
     ensures { λ r. ⌜ r ≡ test (isKind (was s) task h or isUserEvent (was s) h) ⌝ }
 {
     if is_kind(s, names::TASK, h) {
@@ -88,7 +116,7 @@ pub fn is_unclaimed(s: &[u64], h: u64, j: u64) -> bool
 
 // What may be destroyed: anything but an output event.
 pub fn is_destroyable(s: &[u64], h: u64) -> bool
-    requires { ⌜ words ≤ length (now s) ⌝ }
+    requires { ⌜ (words ≤ length (now s)) × holds (sound (read (now s))) ⌝ }
     ensures { λ r. ⌜ r ≡ test (isKind (was s) event h then isUserEvent (was s) h) ⌝ }
 {
     if !is_kind(s, names::EVENT, h) {

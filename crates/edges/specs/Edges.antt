@@ -1,4 +1,5 @@
--- "Edges, marked P" (document 01), and its false roads: one table and one theorem that all of it holds.
+-- "Edges, marked P" (document 01), and its false roads, and document 02's counted events: one table and one theorem that all of it
+-- holds.
 use mathlib.Core.List.{[], _∷_}
 use mathlib.Core.Path.{_≡_, ap}
 use Rattle.number.specs.Number.{limit32, readAt, refusalOf}
@@ -6,7 +7,7 @@ use Rattle.number.specs.declared.Reading.the-variants.{Value}
 use Rattle.number.specs.Edges.{P6 as number-edge}
 use Rattle.rules.specs.Formula.{holds}
 use Rattle.rules.specs.Edges.{p1, p2, p3, p4, p8, p8-then, p9, p10, readyStays, grantWhole, firstClaim}
-use Rattle.rules.specs.Edges.{allMet, edges, edges-met}
+use Rattle.rules.specs.Edges.{countedGoes, countedStays, countedStays-then, allMet, edges, edges-met}
 use Rattle.sheet.specs.SheetPrinted.{output}
 use Rattle.edges.specs.Single.{Met, met}
 use Rattle.edges.specs.Filled.{p5, filled}
@@ -43,6 +44,11 @@ pub record Edges : Type 0 where
   pub grant-whole : Met grantWhole
   -- "a second claim replacing the first"
   pub first-claim : Met firstClaim
+  -- document 02, E4: a counted event goes with the last of its count of links, and gives 24 and 14 until then; fired it stays for later
+  -- links, and a delivery that is dropped counts
+  pub counted-goes : Met countedGoes
+  pub counted-stays : Met countedStays
+  pub counted-stays-then : Met countedStays-then
 
 number-read : (refusalOf (readAt limit32 (128 ∷ 0 ∷ []) 0) ≡ 4) × (readAt limit32 (128 ∷ 1 ∷ []) 0 ≡ Value 128 2)
 unfolding refusalOf
@@ -52,7 +58,7 @@ pub edges-hold : Edges
 edges-hold = go edges-met
   where
     go : holds (allMet edges) → Edges
-    go (m1, (m2, (m3, (m4, (m8, (m8-then, (m9, (m10, (stays, (whole, (claim, _))))))))))) = record {
+    go (m1, (m2, (m3, (m4, (m8, (m8-then, (m9, (m10, (stays, (whole, (claim, (goes, (kept, (kept-then, _)))))))))))))) = record {
       P1 = met p1 m1;
       P2 = met p2 m2;
       P3 = met p3 m3;
@@ -67,4 +73,7 @@ edges-hold = go edges-met
       ready-stays = met readyStays stays;
       grant-whole = met grantWhole whole;
       first-claim = met firstClaim claim;
+      counted-goes = met countedGoes goes;
+      counted-stays = met countedStays kept;
+      counted-stays-then = met countedStays-then kept-then;
     }

@@ -11,10 +11,26 @@ ghost use Rattle.rules.specs.Checks.{deliverChecks};
 ghost use Rattle.rules.specs.Effects as rules;
 ghost use Rattle.laws.specs.Met.{met};
 
-// 9 deliver (link). Internal: callers have shown the length, a sound session and the checks.
-pub fn deliver(s: &mut [u64], l: u64)
+// A counted event goes with the delivery of the last of its links, l. Internal, as `deliver` is.
+fn expire(s: &mut [u64], l: u64)
     requires { ⌜ (words ≤ length (now s)) × holds (sound (read (now s))) × met (deliverChecks (read (now s)) l) ⌝ }
-    ensures { λ r. ⌜ Becomes s (rules.deliver (was s) l) ⌝ }
+    ensures { λ r. ⌜ Becomes s (rules.expire (was s) l) ⌝ }
+{
+    if reading::serves_last(s, l) {
+        let source = session::get(s, Field::LinkSource, l as usize);
+        session::set(
+            s,
+            Field::EventState,
+            source as usize,
+            session::names::DESTROYED_FIRED,
+        );
+    }
+}
+
+// Marks link l as delivered and satisfies its destination, or drops the delivery. Internal, as `deliver` is.
+fn bring(s: &mut [u64], l: u64)
+    requires { ⌜ (words ≤ length (now s)) × holds (sound (read (now s))) × met (deliverChecks (read (now s)) l) ⌝ }
+    ensures { λ r. ⌜ Becomes s (rules.bring (was s) l) ⌝ }
 {
     let at = l as usize;
     let d = session::get(s, Field::LinkTarget, at);
@@ -29,4 +45,13 @@ pub fn deliver(s: &mut [u64], l: u64)
         return;
     }
     satisfy_either(s, d, j, p);
+}
+
+// 9 deliver (link). Internal: callers have shown the length, a sound session and the checks.
+pub fn deliver(s: &mut [u64], l: u64)
+    requires { ⌜ (words ≤ length (now s)) × holds (sound (read (now s))) × met (deliverChecks (read (now s)) l) ⌝ }
+    ensures { λ r. ⌜ Becomes s (rules.deliver (was s) l) ⌝ }
+{
+    expire(s, l);
+    bring(s, l);
 }

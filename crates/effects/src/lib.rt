@@ -11,6 +11,7 @@ pub use firing::fire_one;
 pub use firing::set_open_links;
 pub use linking::dependence;
 pub use making::block;
+pub use making::counted;
 pub use making::event;
 pub use making::task;
 pub use making::template;

@@ -1,4 +1,4 @@
-// Making templates, tasks, events and blocks: operations 1 to 4.
+// Making templates, tasks, events and blocks: operations 1 to 4, and 13.
 use session::Field;
 ghost use mathlib.Core.Path.{_≡_};
 ghost use Prim.Native.Nat.{_≤_, _+_};
@@ -9,7 +9,8 @@ ghost use Rattle.session.specs.Lent.{was, Becomes};
 ghost use Rattle.session.specs.declared.Field.the-variants.{Objects};
 ghost use Rattle.rules.specs.Formula.{holds};
 ghost use Rattle.rules.specs.Sound.{sound};
-ghost use Rattle.rules.specs.Checks.{taskSlots, templateChecks, taskChecks, eventChecks, blockChecks};
+ghost use Rattle.session.specs.Names.{counted};
+ghost use Rattle.rules.specs.Checks.{taskSlots, templateChecks, taskChecks, eventChecks, blockChecks, countedChecks};
 ghost use Rattle.rules.specs.Effects.{new, newTemplate, newEvent, newTask, makeTask, newBlock};
 ghost use Rattle.laws.specs.Met.{met};
 ghost use Rattle.effects.specs.Made.{Made};
@@ -55,16 +56,18 @@ fn first_tally(ty: u64) -> u64
     0
 }
 
-// A new event of type ty with handle h. Internal: callers have shown the length and the handle.
-fn new_event(s: &mut [u64], h: u64, ty: u64)
+// A new event of type ty with handle h, and a counted one's count, 0 for others. Internal: callers have shown the length and the
+// handle.
+fn new_event(s: &mut [u64], h: u64, ty: u64, count: u64)
     requires { ⌜ (words ≤ length (now s)) × (h ≤ mostObjects) ⌝ }
-    ensures { λ r. ⌜ Becomes s (newEvent (was s) h ty) ⌝ }
+    ensures { λ r. ⌜ Becomes s (newEvent (was s) h ty count) ⌝ }
 {
     new_object(s, h, session::names::EVENT);
     let at = h as usize;
     session::set(s, Field::EventState, at, session::names::OPEN);
     session::set(s, Field::EventType, at, ty);
     session::set(s, Field::EventTally, at, first_tally(ty));
+    session::set(s, Field::EventCount, at, count);
 }
 
 // The state of a task with n pre-slots as it is made.
@@ -106,7 +109,7 @@ pub fn task(s: &mut [u64], caller: u64, tm: u64, n: u64, finish: u64, out: u64) 
     let h = next_object(s);
     new_task(s, caller, h, slots, finish, out);
     if out == 1 {
-        new_event(s, h + 1, session::names::OUTPUT);
+        new_event(s, h + 1, session::names::OUTPUT, 0);
         return h;
     }
     h
@@ -115,10 +118,22 @@ pub fn task(s: &mut [u64], caller: u64, tm: u64, n: u64, finish: u64, out: u64) 
 // 3 event (caller, type). Internal, as `template` is.
 pub fn event(s: &mut [u64], caller: u64, ty: u64) -> u64
     requires { ⌜ (words ≤ length (now s)) × holds (sound (read (now s))) × met (eventChecks (read (now s)) caller ty) ⌝ }
-    ensures { λ r. ⌜ Made (now (s .entry)) (now (s .exit)) (newEvent (was s) (was s Objects 0 + 1) ty) (was s Objects 0 + 1) r ⌝ }
+    ensures { λ r. ⌜ Made (now (s .entry)) (now (s .exit)) (newEvent (was s) (was s Objects 0 + 1) ty 0) (was s Objects 0 + 1) r ⌝ }
 {
     let h = next_object(s);
-    new_event(s, h, ty);
+    new_event(s, h, ty, 0);
+    h
+}
+
+// 13 counted (caller, count): an event that goes once so many links from it are delivered. Internal, as `template` is.
+pub fn counted(s: &mut [u64], caller: u64, n: u64) -> u64
+    requires { ⌜ (words ≤ length (now s)) × holds (sound (read (now s))) × met (countedChecks (read (now s)) caller n) ⌝ }
+    ensures { λ r. ⌜
+        Made (now (s .entry)) (now (s .exit)) (newEvent (was s) (was s Objects 0 + 1) counted n) (was s Objects 0 + 1) r
+        ⌝ }
+{
+    let h = next_object(s);
+    new_event(s, h, session::names::COUNTED, n);
     h
 }
 

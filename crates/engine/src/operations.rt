@@ -8,7 +8,7 @@ ghost use Rattle.session.specs.Table.{read, words};
 ghost use Rattle.rules.specs.Formula.{holds};
 ghost use Rattle.rules.specs.Sound.{sound};
 ghost use Rattle.rules.specs.Step.{templateRule, taskRule, eventRule, blockRule, dependenceRule, satisfyRule, releaseRule};
-ghost use Rattle.rules.specs.Step.{destroyRule, deliverRule, grantRule, startRule, endRule};
+ghost use Rattle.rules.specs.Step.{destroyRule, deliverRule, grantRule, startRule, endRule, countedRule};
 ghost use Rattle.engine.specs.Played.{Plays, PlaysCode};
 
 pub fn template(s: &mut [u64], caller: u64, n: u64) -> Answer
@@ -150,6 +150,17 @@ pub fn end(s: &mut [u64], t: u64, b: u64) -> Answer
     Answer::Accepted(0)
 }
 
+pub fn counted(s: &mut [u64], caller: u64, n: u64) -> Answer
+    requires { ⌜ (words ≤ length (now s)) × holds (sound (read (now s))) ⌝ }
+    ensures { λ r. ⌜ Plays countedRule (caller ∷ n ∷ []) s r ⌝ }
+{
+    let refused = checks::counted_refusal(s, caller, n);
+    if refused != 0 {
+        return Answer::Refused(refused);
+    }
+    Answer::Accepted(effects::counted(s, caller, n))
+}
+
 // Codes below 5: what makes objects.
 pub fn make(s: &mut [u64], code: u64, f: [u64; 5]) -> Answer
     requires { ⌜ (words ≤ length (now s)) × holds (sound (read (now s))) × (code < 5) ⌝ }
@@ -177,7 +188,7 @@ pub fn call(s: &mut [u64], code: u64, f: [u64; 5]) -> Answer
     }
 }
 
-// Codes from 9 on: the moves, which have no caller, and the codes that there are not.
+// Codes from 9 on: the moves, which have no caller, what edition 2 adds, and the codes that there are not.
 pub fn move_on(s: &mut [u64], code: u64, f: [u64; 5]) -> Answer
     requires { ⌜ (words ≤ length (now s)) × holds (sound (read (now s))) × (9 ≤ code) ⌝ }
     ensures { λ r. ⌜ PlaysCode code f s r ⌝ }
@@ -187,6 +198,7 @@ pub fn move_on(s: &mut [u64], code: u64, f: [u64; 5]) -> Answer
         10 => grant(s, f[0]),
         11 => start(s, f[0]),
         12 => end(s, f[0], f[1]),
+        13 => counted(s, f[0], f[1]),
         _ => Answer::Refused(refusals::UNKNOWN_CODE),
     }
 }

@@ -9,8 +9,8 @@ use Rattle.laws.specs.Parts.{freeLinks-of, objects-from, unused-from}
 use Rattle.laws.specs.Frame.{Shown.due}
 use Rattle.laws.specs.Rows.{Name, says}
 use Rattle.laws.specs.Rows.Name.{counts, kinds, templateParts, taskParts, eventParts, blockParts, roots, creators}
-use Rattle.laws.specs.Rows.Name.{outputs, slots, links, oneLink, states, blocks, compatible, latches, dropped, freeSlots}
-use Rattle.laws.specs.Rows.Name.{freeLinks, settled}
+use Rattle.laws.specs.Rows.Name.{outputs, slots, links, oneLink, states, blocks, compatible, latches, countedEvents}
+use Rattle.laws.specs.Rows.Name.{dropped, freeSlots, freeLinks, settled}
 use Rattle.laws.specs.Keeping.{but, all, Excepted, Kept, Sound}
 
 -- the rules of `sound` by their names in Sound
@@ -27,6 +27,7 @@ pub record Rules (s : Session) : Type 0 where
   pub blocks : holds (rule.blocks s)
   pub compatible : holds (rule.compatible s)
   pub latches : holds (rule.latches s)
+  pub countedEvents : holds (rule.countedEvents s)
   pub dropped : holds (rule.dropped s)
   pub unused : holds (rule.unused s)
 
@@ -43,7 +44,7 @@ pub sound-from : (s : Session) → Rules s → holds (sound s)
 unfolding sound soundUsed
 sound-from s r = (
   r .counts & r .objects & r .roots & r .creators & r .outputs & r .slots & r .links & r .oneLink
-      & r .states & r .blocks & r .compatible & r .latches & r .dropped,
+      & r .states & r .blocks & r .compatible & r .latches & r .countedEvents & r .dropped,
   r .unused,
 )
 
@@ -67,6 +68,7 @@ sound-by-name s h = named (rules-of s h)
     named r blocks = r .blocks
     named r compatible = r .compatible
     named r latches = r .latches
+    named r countedEvents = r .countedEvents
     named r dropped = r .dropped
     named r freeSlots = freeSlots-of s (r .objects) (r .unused)
     named r freeLinks = freeLinks-of s (r .objects) (r .unused)
@@ -87,6 +89,7 @@ sound-of s h =
       blocks = h blocks;
       compatible = h compatible;
       latches = h latches;
+      countedEvents = h countedEvents;
       dropped = h dropped;
       unused =
           unused-from s (h counts) (h kinds) (h templateParts) (h taskParts) (h eventParts) (h blockParts)

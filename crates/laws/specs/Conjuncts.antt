@@ -8,7 +8,7 @@ use mathlib.Core.Logic.{_⊎_, inl, inr}
 use Rattle.session.specs.Table.{Session}
 use Rattle.session.specs.declared.Field.{Field}
 use Rattle.session.specs.declared.Field.the-variants.{Objects, Links, Kind, TaskState, TaskCreator, TaskSlots, TaskFinish}
-use Rattle.session.specs.declared.Field.the-variants.{TaskOutput, EventState, EventType, EventPayload, EventTally, BlockState}
+use Rattle.session.specs.declared.Field.the-variants.{TaskOutput, EventState, EventType, EventPayload, EventTally, EventCount, BlockState}
 use Rattle.session.specs.declared.Field.the-variants.{BlockCreator, BlockHeld, SlotMode, SlotMark, SlotPayload, LinkSource}
 use Rattle.session.specs.declared.Field.the-variants.{LinkTarget, LinkSlot, LinkState}
 use Rattle.session.specs.Names.{task, event, block, waiting, resolved, running, ended, taskDestroyed, eventOpen, fired}
@@ -20,7 +20,7 @@ use Rattle.rules.specs.Formula.{Formula._then_}
 use Rattle.rules.specs.Formula.Formula.{each}
 use Rattle.rules.specs.Reading.{at, made, isKind, isUserEvent, hasSlot}
 use Rattle.rules.specs.Effects.{finishes}
-use Rattle.rules.specs.Sound.{isPayload, leadsTo, noSlot, unclaimed, claimed, slot, isLink, taskPart, eventPart, blockPart}
+use Rattle.rules.specs.Sound.{countFits, isPayload, leadsTo, noSlot, unclaimed, claimed, slot, isLink, taskPart, eventPart, blockPart}
 use Rattle.rules.specs.Sound.{noLink, creator, outputOf, full, heldSlot, state, roots, pending, agrees}
 use Rattle.rules.specs.Descendants.{busy}
 use Rattle.laws.specs.Outside.{Outside}
@@ -68,7 +68,7 @@ module _ (t j : ℕ) where
 
 -- what `eventPart` says of an event
 pub data Event : Type 0 where
-  is-event state-low state-high type-known has-payload paid tally-high tally-kind : Event
+  is-event state-low state-high type-known has-payload paid tally-high tally-kind count-fits : Event
 
 module _ (e : ℕ) where
   abbrev pub event-row : Event → Row
@@ -82,6 +82,7 @@ module _ (e : ℕ) where
       (λ s. s EventState e ≐ fired or s EventState e ≐ destroyedFired or s EventPayload e ≐ 0) (λ s. refl)
   event-row tally-high = over (EventTally ∷ []) (λ s. s EventTally e ≼ topTally) (λ s. refl)
   event-row tally-kind = over (EventType ∷ EventTally ∷ []) (λ s. s EventType e ≐ latch or s EventTally e ≐ 0) (λ s. refl)
+  event-row count-fits = over (EventType ∷ EventCount ∷ []) (λ s. countFits (s EventType e) (s EventCount e)) (λ s. refl)
 
   abbrev pub event-says : Event → Session → Formula
   event-says n = event-row n .says
@@ -95,13 +96,15 @@ module _ (e : ℕ) where
   event-by-name s k (inl x) has-payload = x .1 .1 .1 .1 .0
   event-by-name s k (inl x) paid = x .1 .1 .1 .1 .1 .0
   event-by-name s k (inl x) tally-high = x .1 .1 .1 .1 .1 .1 .0
-  event-by-name s k (inl x) tally-kind = x .1 .1 .1 .1 .1 .1 .1
+  event-by-name s k (inl x) tally-kind = x .1 .1 .1 .1 .1 .1 .1 .0
+  event-by-name s k (inl x) count-fits = x .1 .1 .1 .1 .1 .1 .1 .1
 
   pub event-of : (s : Session) → AllOf event-row s → holds (eventPart s e)
   event-of s v = inl (v is-event, (v state-low, (v state-high, (v type-known, more))))
     where
-      more : holds (event-says has-payload s and event-says paid s and event-says tally-high s and event-says tally-kind s)
-      more = (v has-payload, (v paid, (v tally-high, v tally-kind)))
+      more : holds (event-says has-payload s and event-says paid s and event-says tally-high s and event-says tally-kind s
+          and event-says count-fits s)
+      more = (v has-payload, (v paid, (v tally-high, (v tally-kind, v count-fits))))
 
   pub event-lasts : {s q : Session} {ws : List Field} → Outside s q ws → s Kind e ≡ event → holds (eventPart s e)
       → ((n : Event) → DueOf event-row ws n → holds (event-says n q)) → holds (eventPart q e)
@@ -207,11 +210,18 @@ pub record NoEvent (s : Session) (h : ℕ) : Type 0 where
   pub no-type : s EventType h ≡ 0
   pub no-payload : s EventPayload h ≡ 0
   pub no-tally : s EventTally h ≡ 0
+  pub no-count : s EventCount h ≡ 0
 
 pub no-event : (s : Session) (h : ℕ) → (s Kind h ≡ event → ⊥) → holds (eventPart s h) → NoEvent s h
 no-event s h n (inl x) = absurd (n (x .0))
 no-event s h n (inr x) =
-    record { no-state = x .1 .0; no-type = x .1 .1 .0; no-payload = x .1 .1 .1 .0; no-tally = x .1 .1 .1 .1 }
+    record {
+      no-state = x .1 .0;
+      no-type = x .1 .1 .0;
+      no-payload = x .1 .1 .1 .0;
+      no-tally = x .1 .1 .1 .1 .0;
+      no-count = x .1 .1 .1 .1 .1;
+    }
 
 -- those of a link
 pub record NoLink (s : Session) (l : ℕ) : Type 0 where

@@ -1,6 +1,6 @@
 -- How many places a formula holds at, where it is compared with another one or the places grow by one.
 use Prim.Native.Nat.{ℕ, zero, suc, _+_, _≤_, _<_}
-use mathlib.Core.Path.{_≡_}
+use mathlib.Core.Path.{_≡_, refl, _∙_}
 use native.Mathlib.Omega.{arith}
 use native.Mathlib.Numerals.{add-one}
 use Rattle.rules.specs.Formula.{Formula, holds, count}
@@ -22,6 +22,12 @@ count-next-yes n f h = rw add-one (count-yes n f h)
 
 pub count-next-no : (n : ℕ) (f : ℕ → Formula) → (holds (f n) → ⊥) → count (n + 1) f ≡ count n f
 count-next-no n f h = rw add-one (count-no n f h)
+
+-- a formula that holds nowhere
+pub count-none : (n : ℕ) (f : ℕ → Formula) → ((i : ℕ) → i < n → holds (f i) → ⊥) → count n f ≡ 0
+unfolding count
+count-none zero f h = refl
+count-none (suc n) f h = count-no n f (h n (omega arith)) ∙ count-none n f (λ i l. h i (omega arith))
 
 -- a formula holds at no more places than there are
 pub count-most : (n : ℕ) (f : ℕ → Formula) → count n f ≤ n

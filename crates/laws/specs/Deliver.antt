@@ -1,4 +1,5 @@
--- A delivery (operation 9) keeps a session kept: the link is marked, and its slot satisfied or the delivery dropped.
+-- A delivery (operation 9) keeps a session kept: a counted event goes with the last of its links (Expire); the link is marked, and its
+-- slot satisfied or the delivery dropped.
 use Prim.Native.Nat.{ℕ, _+_, _≤_, _<_}
 use mathlib.Core.Path.{_≡_, refl, ap, sym, _∙_}
 use mathlib.Core.Logic.{_⊎_, inl, inr}
@@ -13,7 +14,7 @@ use Rattle.rules.specs.FormulaLaws.{Case, decide, choose-yes, choose-no, Case.i
 use Rattle.session.specs.Names.{template, task, event, block, ended, taskDestroyed, ready, delivered}
 use Rattle.rules.specs.Reading.{at, isKind, isGone, isUserEvent}
 use Rattle.rules.specs.Checks.{deliverChecks}
-use Rattle.rules.specs.Effects.{satisfy, satisfySlot, satisfyEvent, drops, deliver}
+use Rattle.rules.specs.Effects.{satisfy, satisfySlot, satisfyEvent, drops, expire, bring, deliver}
 use Rattle.rules.specs.Sound.{isPayload, taskPart, slot, leadsTo, unclaimed, claimed}
 use Rattle.laws.specs.Places.{put-here}
 use Rattle.laws.specs.Met.{Checked}
@@ -30,7 +31,8 @@ use Rattle.laws.specs.SlotPlaces.{task-slot}
 use Rattle.laws.specs.Apart.{whole}
 use Rattle.laws.specs.Standing.{made-low, slot-of, link-at, waits as must-wait}
 use Rattle.laws.specs.FillSlot.{Vacant, fill-keeps}
-use Rattle.laws.specs.MarkLink.{handed, mark-apart, mark-dropped-more}
+use Rattle.laws.specs.MarkLink.{handed, Expired, mark-apart, mark-dropped-more}
+use Rattle.laws.specs.Expire.{expired, expire-keeps, still-checked}
 use Rattle.laws.specs.SatisfyEvent.{satisfyEvent-keeps}
 
 -- what a link brings
@@ -43,14 +45,14 @@ thrown s l = put (handed s l) Dropped 0 (s Dropped 0 + 1)
 
 -- the three things that a delivery can do
 pub data Delivered (s : Session) (l : ℕ) : Type 0 where
-  drops-it : holds (drops s (s LinkTarget l) (s LinkSlot l)) → deliver s l ≡ thrown s l → Delivered s l
+  drops-it : holds (drops s (s LinkTarget l) (s LinkSlot l)) → bring s l ≡ thrown s l → Delivered s l
   fills-task : (holds (drops s (s LinkTarget l) (s LinkSlot l)) → ⊥) → s Kind (s LinkTarget l) ≡ task
-      → deliver s l ≡ satisfySlot (handed s l) (s LinkTarget l) (s LinkSlot l) (brings s l) → Delivered s l
+      → bring s l ≡ satisfySlot (handed s l) (s LinkTarget l) (s LinkSlot l) (brings s l) → Delivered s l
   fills-event : (holds (drops s (s LinkTarget l) (s LinkSlot l)) → ⊥) → (s Kind (s LinkTarget l) ≡ task → ⊥)
-      → deliver s l ≡ satisfyEvent (handed s l) (s LinkTarget l) (s LinkSlot l) (brings s l) → Delivered s l
+      → bring s l ≡ satisfyEvent (handed s l) (s LinkTarget l) (s LinkSlot l) (brings s l) → Delivered s l
 
 pub delivery : (s : Session) (l : ℕ) → Delivered s l
-unfolding deliver satisfy put
+unfolding bring satisfy put
 delivery s l = go (decide (drops s d j)) (decide (isKind s task d))
   where
     d : ℕ
@@ -65,7 +67,7 @@ delivery s l = go (decide (drops s d j)) (decide (isKind s task d))
     event-filled : Session
     event-filled = satisfyEvent (handed s l) d j (brings s l)
 
-    taken : (holds (drops s d j) → ⊥) → deliver s l ≡ satisfy (handed s l) d j (brings s l)
+    taken : (holds (drops s d j) → ⊥) → bring s l ≡ satisfy (handed s l) d j (brings s l)
     taken n = choose-no (drops s d j) (thrown s l) (satisfy (handed s l) d j (brings s l)) n
 
     go : Case (drops s d j) → Case (isKind s task d) → Delivered s l
@@ -73,7 +75,8 @@ delivery s l = go (decide (drops s d j)) (decide (isKind s task d))
     go (it-does-not n) (it-does k) = fills-task n k (taken n ∙ choose-yes (isKind s task d) slot-filled event-filled k)
     go (it-does-not n) (it-does-not k) = fills-event n k (taken n ∙ choose-no (isKind s task d) slot-filled event-filled k)
 
-module _ (s : Session) (l : ℕ) (low : 1 ≤ l) (high : l ≤ s Links 0) (was : s LinkState l ≡ ready) (r : Kept s) where
+module _ (s : Session) (l : ℕ) (low : 1 ≤ l) (high : l ≤ s Links 0) (was : s LinkState l ≡ ready) (last : Expired s l)
+    (r : Kept s) where
   link : AllOf (link-row l) s
   link = link-at s l (r links) (low, high)
 
@@ -193,7 +196,7 @@ module _ (s : Session) (l : ℕ) (low : 1 ≤ l) (high : l ≤ s Links 0) (was :
           shows brought due = λ m. let z = empty (x .0) in absurd (omega arith)
 
   mark-keeps : (s Kind (s LinkTarget l) ≡ task → s TaskState (s LinkTarget l) ≡ taskDestroyed) → Kept (handed s l)
-  mark-keeps over = whole (handed s l) (s LinkTarget l) (s LinkSlot l) (mark-apart s l low high was r) (mark-slot over)
+  mark-keeps over = whole (handed s l) (s LinkTarget l) (s LinkSlot l) (mark-apart s l low high was last r) (mark-slot over)
 
   drops-keeps : holds (drops s (s LinkTarget l) (s LinkSlot l)) → Kept (thrown s l)
   unfolding put
@@ -201,14 +204,14 @@ module _ (s : Session) (l : ℕ) (low : 1 ≤ l) (high : l ≤ s Links 0) (was :
       kept-by [] (outside-put 0 (s Dropped 0 + 1) (outside-same (handed s l))) (mark-keeps (λ k. gone-destroyed k x)) shows
     where
       shows : (n : Name) → Due (Dropped ∷ []) [] n → holds (says n (thrown s l))
-      shows dropped due = mark-dropped-more s l low high was r
+      shows dropped due = mark-dropped-more s l low high was last r
 
   fills-task-keeps : (holds (drops s (s LinkTarget l) (s LinkSlot l)) → ⊥) → s Kind (s LinkTarget l) ≡ task
       → Kept (satisfySlot (handed s l) (s LinkTarget l) (s LinkSlot l) (brings s l))
   unfolding put drops
   fills-task-keeps n k =
       fill-keeps (handed s l) (s LinkTarget l) (s LinkSlot l) (brings s l) (vacant k (λ g. n (inl g)))
-      (mark-apart s l low high was r)
+      (mark-apart s l low high was last r)
 
   fills-event-keeps : (holds (drops s (s LinkTarget l) (s LinkSlot l)) → ⊥) → (s Kind (s LinkTarget l) ≡ task → ⊥)
       → Kept (satisfyEvent (handed s l) (s LinkTarget l) (s LinkSlot l) (brings s l))
@@ -221,10 +224,14 @@ module _ (s : Session) (l : ℕ) (low : 1 ≤ l) (high : l ≤ s Links 0) (was :
       user (inl t) = absurd (k t)
       user (inr x) = x
 
-pub deliver-keeps : (s : Session) (l : ℕ) → Checked (deliverChecks s l) → Kept s → Kept (deliver s l)
-deliver-keeps s l m r = go (delivery s l)
+bring-keeps : (s : Session) (l : ℕ) → Checked (deliverChecks s l) → Expired s l → Kept s → Kept (bring s l)
+bring-keeps s l m x r = go (delivery s l)
   where
-    go : Delivered s l → Kept (deliver s l)
-    go (drops-it x e) = rw e (drops-keeps s l (m 9 .0) (m 9 .1) (m 16) r x)
-    go (fills-task n k e) = rw e (fills-task-keeps s l (m 9 .0) (m 9 .1) (m 16) r n k)
-    go (fills-event n k e) = rw e (fills-event-keeps s l (m 9 .0) (m 9 .1) (m 16) r n k)
+    go : Delivered s l → Kept (bring s l)
+    go (drops-it y e) = rw e (drops-keeps s l (m 9 .0) (m 9 .1) (m 16) x r y)
+    go (fills-task n k e) = rw e (fills-task-keeps s l (m 9 .0) (m 9 .1) (m 16) x r n k)
+    go (fills-event n k e) = rw e (fills-event-keeps s l (m 9 .0) (m 9 .1) (m 16) x r n k)
+
+pub deliver-keeps : (s : Session) (l : ℕ) → Checked (deliverChecks s l) → Kept s → Kept (deliver s l)
+unfolding deliver
+deliver-keeps s l m r = bring-keeps (expire s l) l (still-checked s l m) (expired s l) (expire-keeps s l m r)

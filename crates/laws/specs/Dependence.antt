@@ -9,7 +9,7 @@ use Rattle.session.specs.declared.Field.the-variants.{Links, Kind, TaskSlots, E
 use Rattle.rules.specs.Formula.{holds, choose, Formula._≐_, Formula._or_}
 use Rattle.rules.specs.FormulaLaws.{Case, decide, choose-yes, choose-no, Case.it-does, Case.it-does-not}
 use Rattle.session.specs.Names.{task, event, block, eventOpen, fired, mostLinks}
-use Rattle.rules.specs.Reading.{made, at, isKind, isGone, isUserEvent, hasSlot, overflows}
+use Rattle.rules.specs.Reading.{made, at, isKind, isGone, isUserEvent, hasSlot, overflows, hasItsCount}
 use Rattle.rules.specs.Checks.{dependenceChecks, orNull, remains, makesLink}
 use Rattle.rules.specs.Effects.{claim, newLink, satisfy, satisfySlot, satisfyEvent, depend}
 use Rattle.rules.specs.Sound.{isPayload, slot, noSlot, unclaimed}
@@ -84,6 +84,7 @@ record Asked (s : Session) (source d j mode : ℕ) : Type 0 where
   has-slot : holds (hasSlot s d j)
   unclaimed-yet : s Kind d ≡ task → s SlotMode (at d j) ≡ 0
   fits : s Kind source ≡ event ⊎ (holds (overflows s d j) → ⊥)
+  spare : s Kind source ≡ event → holds (hasItsCount s source) → ⊥
   room : s Kind source ≡ event → s Links 0 + 1 ≤ mostLinks
 
 asked : (s : Session) (caller source d j mode : ℕ) → Checked (dependenceChecks s caller source d j mode)
@@ -101,6 +102,7 @@ asked s caller source d j mode m =
       has-slot = m 12;
       unclaimed-yet = m 13;
       fits = m 19;
+      spare = m 24;
       room = m 21;
     }
 
@@ -144,6 +146,7 @@ module _ (s : Session) (source d j mode : ℕ) (q : Asked s source d j mode) (h 
           source-made = is-made;
           source-event = e;
           source-state = source-state;
+          source-spare = q .spare e;
           target-made = q .target-made;
           target-kind = q .target-kind;
           has-slot = q .has-slot;
@@ -192,6 +195,7 @@ module _ (s : Session) (source d j mode : ℕ) (q : Asked s source d j mode) (h 
               source-made = x .source-made;
               source-event = x .source-event;
               source-state = x .source-state;
+              source-spare = x .source-spare;
               target-made = x .target-made;
               target-kind = x .target-kind;
               has-slot = x .has-slot;

@@ -128,6 +128,14 @@ module _ (s : Session) (e : ℕ) (kind : holds (isKind s event e)) (low : 1 ≤ 
       had-fired (gone-unfired p f q) (inl a) = absurd (omega arith)
       had-fired (gone-unfired p f q) (inr a) = absurd (omega arith)
 
+  keeps-gone : (i : ℕ) → destroyedUnfired ≤ s EventState i → destroyedUnfired ≤ destroyEvent s e EventState i
+  keeps-gone i l = go (event-after s e i)
+    where
+      go : EventAfter s e i → destroyedUnfired ≤ destroyEvent s e EventState i
+      go (stays n q) = rw q l
+      go (gone-fired p f q) = rw q (omega arith)
+      go (gone-unfired p f q) = rw q (omega arith)
+
   -- unless it had fired it was open
   was-open : (i : ℕ) → e ≡ i → (s EventState i ≡ fired → ⊥) → s EventState i ≡ eventOpen
   was-open i p n =
@@ -185,6 +193,7 @@ module _ (s : Session) (e : ℕ) (kind : holds (isKind s event e)) (low : 1 ≤ 
       record {
         part = keeps-eventPart;
         latch = keeps-latch;
+        stays-gone = keeps-gone;
         still-delivered = still-delivered s e;
         was-delivered = was-delivered s e;
         payload = λ l b d. refl;

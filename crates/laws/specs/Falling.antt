@@ -11,7 +11,7 @@ use Rattle.session.specs.Names.{task, waiting, resolved, granted, running, ende
 use Rattle.rules.specs.Formula.{Formula, holds, choose, Formula._≐_, Formula._and_}
 use Rattle.rules.specs.Reading.{at, isGone, isUndelivered}
 use Rattle.rules.specs.Checks.{deliverChecks, grantChecks, startChecks, endChecks}
-use Rattle.rules.specs.Effects.{fire, fireOne, fireFinished, satisfySlot, satisfyEvent, drops, deliver, grant, start, end, letGo}
+use Rattle.rules.specs.Effects.{fire, fireOne, fireFinished, satisfySlot, satisfyEvent, drops, bring, expire, deliver, grant, start, end, letGo}
 use Rattle.rules.specs.Effects.{buryDoomed}
 use Rattle.rules.specs.Sound.{kept}
 use Rattle.rules.specs.FormulaLaws.{choose-case}
@@ -29,6 +29,7 @@ use Rattle.laws.specs.Firing.{LinkAfter, link-after, LinkAfter.ready-now
 use Rattle.laws.specs.SatisfyEvent.{EventSatisfied, event-satisfied, EventSatisfied.latch-counts}
 use Rattle.laws.specs.SatisfyEvent.{EventSatisfied.latch-fires, EventSatisfied.nothing-more, EventSatisfied.event-fires}
 use Rattle.laws.specs.FillSlot.{StateAfter, state-after, StateAfter.other, StateAfter.waits, StateAfter.moved}
+use Rattle.laws.specs.Expire.{expire-keeps, still-checked}
 use Rattle.laws.specs.Deliver.{Delivered, delivery, Delivered.drops-it, Delivered.fills-task, Delivered.fills-event}
 use Rattle.laws.specs.Left.{left, left-same, moved-left, handed-left}
 
@@ -110,13 +111,10 @@ satisfySlot-left s t j p w =
     was k i h (moved q e n) x = let z : s TaskState i ≡ waiting = rw (← q) w in omega arith
 
 -- a delivery: the link is delivered, and what it satisfies has as much left
-pub deliver-falls : (s : Session) (l : ℕ) → Checked (deliverChecks s l) → holds (kept s) → left s ≡ 1 + left (deliver s l)
+bring-falls : (s : Session) (l : ℕ) → Checked (deliverChecks s l) → Kept s → left s ≡ 1 + left (bring s l)
 unfolding drops put
-deliver-falls s l m k = handed-left s l (m 9 .1) (m 16) ∙ ap (λ (n : ℕ). 1 + n) (sym (go (delivery s l)))
+bring-falls s l m r = handed-left s l (m 9 .1) (m 16) ∙ ap (λ (n : ℕ). 1 + n) (sym (go (delivery s l)))
   where
-    r : Kept s
-    r = by-name s k
-
     link : AllOf (link-row l) s
     link = link-at s l (r links) (m 9)
 
@@ -133,10 +131,20 @@ deliver-falls s l m k = handed-left s l (m 9 .1) (m 16) ∙ ap (λ (n : ℕ). 1 
         let mark = awaited-mark s t j l here e there (let h = m 9 .1 in omega arith) (refl, refl) undone in
         is-waiting s t j (r counts) (r taskParts) (r states) (link target-made) e there (task-slot s t j e has) mark
 
-    go : Delivered s l → left (deliver s l) ≡ left (handed s l)
+    go : Delivered s l → left (bring s l) ≡ left (handed s l)
     go (drops-it x e) = rw e (dropped-left (handed s l) _)
     go (fills-task n q e) = rw e (satisfySlot-left (handed s l) _ _ _ (still-waits n q))
     go (fills-event n q e) = rw e (satisfyEvent-left (handed s l) _ _ _)
+
+-- an event that goes with it leaves as much
+expire-left : (s : Session) (l : ℕ) → left (expire s l) ≡ left s
+unfolding expire put left
+expire-left s l = refl
+
+pub deliver-falls : (s : Session) (l : ℕ) → Checked (deliverChecks s l) → holds (kept s) → left s ≡ 1 + left (deliver s l)
+unfolding deliver
+deliver-falls s l m k =
+    sym (expire-left s l) ∙ bring-falls (expire s l) l (still-checked s l m) (expire-keeps s l m (by-name s k))
 
 -- a grant: from resolved to granted
 pub grant-falls : (s : Session) (t : ℕ) → Checked (grantChecks s t) → left s ≡ 1 + left (grant s t)

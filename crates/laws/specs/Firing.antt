@@ -1,6 +1,6 @@
 -- A firing of open events: their states and payloads change, and their open links become ready. All rules but that of the
 -- outputs survive it; that one too where no output event fires.
-use Prim.Native.Nat.{ℕ, _+_, _<_}
+use Prim.Native.Nat.{ℕ, _+_, _≤_, _<_}
 use mathlib.Core.Path.{_≡_, sym, _∙_}
 use mathlib.Core.Logic.{_⊎_, inl, inr}
 use mathlib.Core.List.{[], _∷_}
@@ -10,7 +10,7 @@ use Rattle.session.specs.declared.Field.the-variants.{Links, EventState, EventT
 use Rattle.session.specs.declared.Field.the-variants.{LinkState}
 use Rattle.rules.specs.Formula.{Formula, holds, Formula._≐_, Formula._and_}
 use Rattle.rules.specs.FormulaLaws.{Case, decide, choose-yes, choose-no, Case.it-does, Case.it-does-not}
-use Rattle.session.specs.Names.{event, eventOpen, fired, linkOpen, ready, delivered, latch, output, evenTally}
+use Rattle.session.specs.Names.{event, eventOpen, fired, destroyedUnfired, linkOpen, ready, delivered, latch, output, evenTally}
 use Rattle.rules.specs.Reading.{isKind}
 use Rattle.rules.specs.Effects.{fire}
 use Rattle.rules.specs.Sound.{isPayload, eventPart, isLink, outputOf, agrees}
@@ -126,6 +126,13 @@ module _ (s : Session) (fires : ℕ → Formula) (payload : ℕ → ℕ) (may : 
       go (fires-now f q p) = may e f .3 ty
       go (stays n q p) = h (rw q at x)
 
+  fire-gone : (e : ℕ) → destroyedUnfired ≤ s EventState e → destroyedUnfired ≤ fire s fires payload EventState e
+  fire-gone e l = go (event-after s fires payload e)
+    where
+      go : EventAfter s fires payload e → destroyedUnfired ≤ fire s fires payload EventState e
+      go (fires-now f q p) = let o = may e f .1 in absurd (omega arith)
+      go (stays n q p) = rw q l
+
   fire-link : (l : ℕ) → holds (agrees (s LinkState l) (s EventState (s LinkSource l)))
       → holds (agrees (fire s fires payload LinkState l) (fire s fires payload EventState (s LinkSource l)))
   fire-link l x = go (link-after s fires payload l) (event-after s fires payload (s LinkSource l))
@@ -152,6 +159,7 @@ module _ (s : Session) (fires : ℕ → Formula) (payload : ℕ → ℕ) (may : 
       record {
         part = event-part;
         latch = fire-latch;
+        stays-gone = fire-gone;
         still-delivered = still-delivered s fires payload;
         was-delivered = was-delivered s fires payload;
         payload = delivered-payload;

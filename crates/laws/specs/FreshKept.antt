@@ -41,7 +41,7 @@ module _ (h : ℕ) (past : 2 < h) where
 
   no-event : holds (eventPart freshSession h)
   unfolding freshSession new put
-  no-event = inr ((λ e. let k = no-kind in omega arith), (refl, (refl, (refl, refl))))
+  no-event = inr ((λ e. let k = no-kind in omega arith), (refl, (refl, (refl, (refl, refl)))))
 
   no-block : holds (blockPart freshSession h)
   unfolding freshSession new put

@@ -10,7 +10,7 @@ use Rattle.session.specs.TableLaws.{same-eq}
 use Rattle.session.specs.declared.Field.{Field}
 use Rattle.session.specs.declared.Field.the-variants.{Objects, Links, Dropped, Kind, TemplateState, TemplateCount, TaskState}
 use Rattle.session.specs.declared.Field.the-variants.{TaskCreator, TaskSlots, TaskFinish, TaskOutput, EventState, EventType}
-use Rattle.session.specs.declared.Field.the-variants.{EventPayload, BlockState, BlockCreator, BlockHeld, SlotMode}
+use Rattle.session.specs.declared.Field.the-variants.{EventPayload, EventCount, BlockState, BlockCreator, BlockHeld, SlotMode}
 use Rattle.session.specs.declared.Field.the-variants.{SlotMark, SlotPayload, LinkSource, LinkTarget, LinkSlot, LinkState}
 use Rattle.session.specs.Names.{fired, destroyedUnfired, destroyedFired, ready, delivered, cut}
 use Rattle.laws.specs.Outside.{among}
@@ -39,7 +39,11 @@ pub data Way : Type 0 where
 abbrev pub ways : List (Way × List Field)
 ways =
     (grows, Objects ∷ Links ∷ Dropped ∷ [])
-    ∷ (object-same, Kind ∷ TemplateCount ∷ TaskCreator ∷ TaskSlots ∷ TaskFinish ∷ TaskOutput ∷ EventType ∷ BlockCreator ∷ [])
+    ∷ (
+      object-same,
+      Kind ∷ TemplateCount ∷ TaskCreator ∷ TaskSlots ∷ TaskFinish ∷ TaskOutput ∷ EventType ∷ EventCount
+          ∷ BlockCreator ∷ [],
+    )
     ∷ (object-grows, TemplateState ∷ TaskState ∷ BlockState ∷ [])
     ∷ (object-falls, BlockHeld ∷ [])
     ∷ (link-same, LinkSource ∷ LinkTarget ∷ LinkSlot ∷ [])

@@ -6,7 +6,7 @@ use native.Mathlib.Omega.{arith}
 use Rattle.session.specs.Table.{Session, put}
 use Rattle.session.specs.declared.Field.the-variants.{Objects, Links, Kind, TemplateState, TemplateCount, TaskState, TaskCreator}
 use Rattle.session.specs.declared.Field.the-variants.{TaskSlots, TaskFinish, TaskOutput, EventState, EventType, EventPayload}
-use Rattle.session.specs.declared.Field.the-variants.{EventTally, BlockState, BlockCreator, BlockHeld, SlotMark, SlotPayload}
+use Rattle.session.specs.declared.Field.the-variants.{EventTally, EventCount, BlockState, BlockCreator, BlockHeld, SlotMark, SlotPayload}
 use Rattle.session.specs.declared.Field.the-variants.{LinkSource, LinkTarget, LinkSlot, LinkState}
 use Rattle.rules.specs.Formula.{Formula, holds, not, choose, Formula._≐_, Formula._≼_, Formula._and_, Formula.each}
 use Rattle.rules.specs.FormulaLaws.{choose-case}
@@ -33,11 +33,13 @@ later-newTemplate s n =
     later-put TemplateCount h n
     (later-put TemplateState h fresh (later-new h template (later-same s) (omega arith)) (omega arith)) (omega arith)
 
-pub later-newEvent : {s r : Session} (h ty : ℕ) → Later s r → s Objects 0 < h → Later s (newEvent r h ty)
+pub later-newEvent : {s r : Session} (h ty n : ℕ) → Later s r → s Objects 0 < h → Later s (newEvent r h ty n)
 unfolding newEvent
-later-newEvent {s} {r} h ty x l =
-    later-put EventTally h (choose (ty ≐ latch) evenTally 0)
-    (later-put EventType h ty (later-put EventState h eventOpen (later-new h event x l) (λ m. absurd (past m))) (omega arith)) tt
+later-newEvent {s} {r} h ty n x l =
+    later-put EventCount h n
+    (later-put EventTally h (choose (ty ≐ latch) evenTally 0)
+    (later-put EventType h ty (later-put EventState h eventOpen (later-new h event x l) (λ m. absurd (past m))) (omega arith)) tt)
+    (λ m. absurd (past m))
   where
     past : h ≤ s Objects 0 → ⊥
     past m = omega arith
@@ -66,7 +68,7 @@ later-makeTask s caller n finish out =
     let h = s Objects 0 + 1 in
     let t = newTask s caller h n finish out in
     let x = later-newTask s caller h n finish out (omega arith) in
-    choose-case (Later s) (out ≐ 1) (newEvent t (h + 1) output) t (λ y. later-newEvent (h + 1) output x (omega arith)) (λ y. x)
+    choose-case (Later s) (out ≐ 1) (newEvent t (h + 1) output 0) t (λ y. later-newEvent (h + 1) output 0 x (omega arith)) (λ y. x)
 
 -- the states of a link that a firing or a cut leaves alone
 no-open : (n : ℕ) → n ≡ linkOpen → (n ≡ delivered → ⊥) × (n ≡ cut → ⊥) × (n ≡ ready → ⊥)

@@ -15,7 +15,7 @@ use Rattle.rules.specs.Reading.{at, made, isKind, isUserEvent, isGone, hasSlot,
 use Rattle.rules.specs.Checks.{dependenceChecks, satisfyChecks, destroyChecks, deliverChecks, grantChecks, startChecks, endChecks}
 use Rattle.rules.specs.Checks.{makesLink}
 use Rattle.rules.specs.Effects.{claim, satisfySlot, satisfyEvent, satisfy, newLink, depend, letGo, release, buryDoomed}
-use Rattle.rules.specs.Effects.{destroyEvent, destroyTask, destroyBlock, destroy, drops, deliver, grant, start, fireOne, end}
+use Rattle.rules.specs.Effects.{destroyEvent, destroyTask, destroyBlock, destroy, drops, bring, expire, deliver, grant, start, fireOne, end}
 use Rattle.laws.specs.Met.{Checked}
 use Rattle.laws.specs.SlotPlaces.{task-slot}
 use Rattle.laws.specs.Frame.{AllOf}
@@ -24,7 +24,8 @@ use Rattle.laws.specs.Keeping.{Sound}
 use Rattle.laws.specs.Conjuncts.{link-row, Linked.target-made, Linked.target-kind, Linked.has-slot}
 use Rattle.laws.specs.Standing.{open-unless, open-latch, open-output, output-stands, waits, slot-of, unclaimed-mark}
 use Rattle.laws.specs.Standing.{awaited-mark, link-at, block-stands}
-use Rattle.laws.specs.Lasting.{Lasts, Later, later-same, later-put, later-change}
+use Rattle.laws.specs.Lasting.{Lasts, Later, later-same, later-put, later-then, later-change}
+use Rattle.laws.specs.Expire.{later-expire, expire-sound, still-checked}
 use Rattle.laws.specs.LastingEffects.{later-fireOne, later-fireFinished, later-destroyEvent, later-letGo, later-satisfySlot}
 use Rattle.laws.specs.LastingEffects.{later-satisfyEvent, later-newLink}
 
@@ -162,9 +163,9 @@ module _ (s : Session) (g : Sound s) (l : ℕ) (m : Checked (deliverChecks s l))
       takes s d j g (link target-made) (link target-kind) there (link has-slot)
       (λ k. awaited-mark s d j l here k there (let n = m 9 in omega arith) (refl, refl) undone)
 
-  pub later-deliver : Later s (deliver s l)
-  unfolding deliver drops put
-  later-deliver =
+  later-bring : Later s (bring s l)
+  unfolding bring drops put
+  later-bring =
       let d = s LinkTarget l in
       let j = s LinkSlot l in
       let r = put s LinkState l delivered in
@@ -173,6 +174,11 @@ module _ (s : Session) (g : Sound s) (l : ℕ) (m : Checked (deliverChecks s l))
       choose-case (Later s) (drops s d j) (put r Dropped 0 (s Dropped 0 + 1)) (satisfy r d j (s EventPayload (s LinkSource l)))
       (λ y. later-put Dropped 0 (s Dropped 0 + 1) x (omega arith))
       (λ n. later-satisfy d j (s EventPayload (s LinkSource l)) x (target-takes (λ y. n (inl y))))
+
+pub later-deliver : (s : Session) → Sound s → (l : ℕ) → Checked (deliverChecks s l) → Later s (deliver s l)
+unfolding deliver
+later-deliver s g l m =
+    later-then (later-expire s g l m) (later-bring (expire s l) (expire-sound s l m g) l (still-checked s l m))
 
 -- operations 10, 11, 12
 pub later-grant : (s : Session) (t : ℕ) → Checked (grantChecks s t) → Later s (grant s t)

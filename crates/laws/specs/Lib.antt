@@ -44,6 +44,7 @@ pub mod FillSlot
 pub mod NewLink
 pub mod Dependence
 pub mod MarkLink
+pub mod Expire
 pub mod Deliver
 -- Kept: holds, and tasks that move on, end or are destroyed
 pub mod Marks

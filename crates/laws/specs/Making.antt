@@ -11,7 +11,7 @@ use native.Mathlib.Decide.{decLt}
 use Rattle.session.specs.Table.{Session, pick}
 use Rattle.session.specs.declared.Field.{Field}
 use Rattle.session.specs.declared.Field.the-variants.{Objects, Links, Kind, TaskState, TaskCreator, TaskSlots, TaskFinish}
-use Rattle.session.specs.declared.Field.the-variants.{TaskOutput, EventState, EventType, EventPayload, EventTally, BlockState}
+use Rattle.session.specs.declared.Field.the-variants.{TaskOutput, EventState, EventType, EventPayload, EventTally, EventCount, BlockState}
 use Rattle.session.specs.declared.Field.the-variants.{BlockCreator, BlockHeld, SlotMark, SlotPayload, LinkSource, LinkTarget}
 use Rattle.session.specs.Names.{task, block, held}
 use Rattle.rules.specs.Formula.{Formula, holds, Formula._≐_, Formula._≼_, Formula._and_, Formula._or_}
@@ -89,10 +89,23 @@ module _ {s g : Session} {k : Sort} (b : Born s g k) (h : But (outputs ∷ []) s
   old-event : (i : ℕ) → (next s ≡ i → ⊥) → holds (eventPart s i) → holds (eventPart (grown s g) i)
   old-event i n (inr x) =
       let z = else b in
-      rw (z Kind refl i n, z EventState refl i n, z EventType refl i n, z EventPayload refl i n, z EventTally refl i n) (inr x)
+      rw (
+        z Kind refl i n,
+        z EventState refl i n,
+        z EventType refl i n,
+        z EventPayload refl i n,
+        z EventTally refl i n,
+        z EventCount refl i n,
+      ) (inr x)
   old-event i n (inl x) =
       let z = else b in
-      rw (z EventState refl i n, z EventType refl i n, z EventPayload refl i n, z EventTally refl i n)
+      rw (
+        z EventState refl i n,
+        z EventType refl i n,
+        z EventPayload refl i n,
+        z EventTally refl i n,
+        z EventCount refl i n,
+      )
       (event-lasts i recounted-writes (x .0) (inl x) shows)
     where
       shows : (m : Event) → DueOf (event-row i) (Objects ∷ Kind ∷ []) m → holds (event-says i m recounted)
@@ -187,7 +200,7 @@ module _ {s g : Session} {k : Sort} (b : Born s g k) (h : But (outputs ∷ []) s
       (rw (was b TaskSlots refl 2 m, was b TaskFinish refl 2 m, was b TaskOutput refl 2 m) (h roots))
 
   -- both ends of a link are made; a link 0 has none
-  ends-old : (l : ℕ) → l < s Links 0 + 1 → (s LinkSource l ≤ s Objects 0) × (s LinkTarget l ≤ s Objects 0)
+  pub ends-old : (l : ℕ) → l < s Links 0 + 1 → (s LinkSource l ≤ s Objects 0) × (s LinkTarget l ≤ s Objects 0)
   ends-old l m = go (h links l m)
     where
       go : holds (l ≐ 0 or isLink s l) → (s LinkSource l ≤ s Objects 0) × (s LinkTarget l ≤ s Objects 0)

@@ -6,14 +6,16 @@ use mathlib.Core.Logic.{_⊎_, inl, inr}
 use mathlib.Core.List.{[], _∷_}
 use native.Mathlib.Omega.{arith}
 use Rattle.session.specs.Table.{Session, put}
-use Rattle.session.specs.declared.Field.the-variants.{Links, Dropped, EventState, LinkSource, LinkTarget, LinkSlot, LinkState}
-use Rattle.session.specs.Names.{ready, delivered}
+use Rattle.session.specs.declared.Field.the-variants.{Links, Dropped, EventState, EventCount, LinkSource, LinkTarget, LinkSlot, LinkState}
+use Rattle.session.specs.Names.{ready, delivered, destroyedUnfired}
 use Rattle.rules.specs.Formula.{Formula, holds, count, Formula._≐_}
+use Rattle.rules.specs.FormulaLaws.{Case, decide, Case.it-does, Case.it-does-not}
+use Rattle.rules.specs.Reading.{isCounted, servedFrom, deliveredFrom, servesLast}
 use Rattle.rules.specs.Sound.{slot, leadsTo, unclaimed, claimed, isLink, noLink, pending, agrees}
 use Rattle.laws.specs.Outside.{Outside, outside-same, outside-put}
 use Rattle.laws.specs.Frame.{AllOf, DueOf, Shown.due}
 use Rattle.laws.specs.Rows.{Name, says}
-use Rattle.laws.specs.Rows.Name.{slots, links, dropped, freeLinks, settled}
+use Rattle.laws.specs.Rows.Name.{slots, links, countedEvents, dropped, freeLinks, settled}
 use Rattle.laws.specs.Keeping.{but, Due, kept-by, Kept}
 use Rattle.laws.specs.Conjuncts.{Claimed, claimed-says, claimed-row, claimed-by-name, claimed-lasts}
 use Rattle.laws.specs.Conjuncts.{Linked, link-says, link-row, link-by-name, link-lasts, open-with, cut-with}
@@ -21,7 +23,7 @@ use Rattle.laws.specs.Conjuncts.Linked.{agreeing}
 use Rattle.laws.specs.Conjuncts.Claimed.{waits, brought}
 use Rattle.laws.specs.Apart.{Apart}
 use Rattle.laws.specs.Places.{Places, places, put-here, put-there, Places.one, Places.two}
-use Rattle.laws.specs.Counting.{count-one}
+use Rattle.laws.specs.Counting.{count-one, count-same}
 
 abbrev isDelivered : Session → ℕ → Formula
 isDelivered s i = s LinkState i ≐ delivered
@@ -30,7 +32,12 @@ isDelivered s i = s LinkState i ≐ delivered
 abbrev pub handed : Session → ℕ → Session
 handed s l = put s LinkState l delivered
 
-module _ (s : Session) (l : ℕ) (low : 1 ≤ l) (high : l ≤ s Links 0) (was : s LinkState l ≡ ready) (h : Kept s) where
+-- an event whose count of links is delivered with link l is destroyed already
+abbrev pub Expired : Session → ℕ → Type 0
+Expired s l = holds (servesLast s l) → destroyedUnfired ≤ s EventState (s LinkSource l)
+
+module _ (s : Session) (l : ℕ) (low : 1 ≤ l) (high : l ≤ s Links 0) (was : s LinkState l ≡ ready) (last : Expired s l)
+    (h : Kept s) where
   writes : Outside s (handed s l) (LinkState ∷ [])
   writes = outside-put l delivered (outside-same s)
 
@@ -122,6 +129,35 @@ module _ (s : Session) (l : ℕ) (low : 1 ≤ l) (high : l ≤ s Links 0) (was :
   pub mark-dropped-more : s Dropped 0 + 1 ≤ count (s Links 0 + 1) (isDelivered (handed s l))
   mark-dropped-more = let x = h dropped in rw mark-count (omega arith)
 
+  -- of its source one more link is delivered, and of other events as many as before
+  module _ (e : ℕ) where
+    one-more : s LinkSource l ≡ e → deliveredFrom (handed s l) e ≡ 1 + deliveredFrom s e
+    unfolding put
+    one-more q =
+        count-one (s Links 0 + 1) (servedFrom s e) (servedFrom (handed s l) e) l (omega arith)
+        (λ y. let z = y .1 in omega arith) (q, state-here)
+        (λ i b n y. (y .0, state-there i n ∙ y .1)) (λ i b n y. (y .0, sym (state-there i n) ∙ y .1))
+
+    no-more : (s LinkSource l ≡ e → ⊥) → deliveredFrom (handed s l) e ≡ deliveredFrom s e
+    unfolding put
+    no-more n =
+        count-same (s Links 0 + 1) (servedFrom (handed s l) e) (servedFrom s e)
+        (λ i b y. (y .0, sym (state-there i (away i (y .0))) ∙ y .1)) (λ i b y. (y .0, state-there i (away i (y .0)) ∙ y .1))
+      where
+        away : (i : ℕ) → s LinkSource i ≡ e → l ≡ i → ⊥
+        away i y q = n (rw q y)
+
+    mark-served : holds (isCounted s e) → (deliveredFrom s e ≡ s EventCount e → destroyedUnfired ≤ s EventState e)
+        → deliveredFrom (handed s l) e ≡ s EventCount e → destroyedUnfired ≤ s EventState e
+    mark-served c y q = go (decide (s LinkSource l ≐ e))
+      where
+        go : Case (s LinkSource l ≐ e) → destroyedUnfired ≤ s EventState e
+        go (it-does z) =
+            let reached : deliveredFrom s e + 1 ≡ s EventCount e = omega (arith, one-more z) in
+            let serves : holds (servesLast s l) = rw z (c, reached) in
+            subst (λ (k : ℕ). destroyedUnfired ≤ s EventState k) z (last serves)
+        go (it-does-not n) = y (sym (no-more n) ∙ q)
+
   mark-noLink : (i : ℕ) → (l ≡ i → ⊥) → holds (noLink s i) → holds (noLink (handed s l) i)
   unfolding put
   mark-noLink i n x = rw (state-there i n) x
@@ -129,6 +165,7 @@ module _ (s : Session) (l : ℕ) (low : 1 ≤ l) (high : l ≤ s Links 0) (was :
   shows : (n : Name) → Due (LinkState ∷ []) (slots ∷ []) n → holds (says n (handed s l))
   unfolding put
   shows links due = λ i b. mark-link i (h links i b)
+  shows countedEvents due = λ e b c. let y = h countedEvents e b c in (y .0, mark-served e c (y .1))
   shows dropped due = let x = mark-dropped-more in omega arith
   shows freeLinks due =
       (mark-noLink 0 (λ e. omega arith) (h freeLinks .0), λ i b m. mark-noLink i (λ e. omega arith) (h freeLinks .1 i b m))

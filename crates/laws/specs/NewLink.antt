@@ -6,19 +6,20 @@ use mathlib.Core.Logic.{_⊎_, inl, inr}
 use mathlib.Core.List.{[], _∷_}
 use native.Mathlib.Omega.{arith}
 use Rattle.session.specs.Table.{Session, put}
-use Rattle.session.specs.declared.Field.the-variants.{Links, Dropped, Kind, TaskSlots, EventState, EventPayload, SlotMode}
+use Rattle.session.specs.declared.Field.the-variants.{Links, Dropped, Kind, TaskSlots, EventState, EventPayload, EventCount, SlotMode}
 use Rattle.session.specs.declared.Field.the-variants.{SlotMark, SlotPayload, LinkSource, LinkTarget, LinkSlot, LinkState}
 use Rattle.session.specs.Names.{task, event, eventOpen, fired, linkOpen, ready, delivered, mostLinks}
-use Rattle.rules.specs.Formula.{Formula, holds, choose, count, Formula._≐_, Formula._or_}
-use Rattle.rules.specs.FormulaLaws.{choose-yes, choose-no}
-use Rattle.rules.specs.Reading.{made, at, isKind, isUserEvent, hasSlot}
+use Rattle.rules.specs.Formula.{Formula, holds, choose, count, Formula._≐_, Formula._≼_, Formula._or_}
+use Rattle.rules.specs.FormulaLaws.{Case, decide, choose-yes, choose-no, Case.it-does, Case.it-does-not}
+use Rattle.rules.specs.Reading.{made, at, isKind, isUserEvent, hasSlot, isCounted, leadsFrom, servedFrom, linksFrom, deliveredFrom}
+use Rattle.rules.specs.Reading.{hasItsCount}
 use Rattle.rules.specs.Effects.{newLink}
 use Rattle.rules.specs.Sound.{slot, leadsTo, noSlot, unclaimed, claimed, isLink, noLink, pending, agrees}
 use Rattle.laws.specs.Outside.{Outside}
 use Rattle.laws.specs.Writes.{newLink-writes, linkFields}
 use Rattle.laws.specs.Frame.{AllOf, DueOf, Shown.due}
 use Rattle.laws.specs.Rows.{Name, says}
-use Rattle.laws.specs.Rows.Name.{counts, slots, links, oneLink, dropped, freeLinks, settled}
+use Rattle.laws.specs.Rows.Name.{counts, slots, links, oneLink, countedEvents, dropped, freeLinks, settled}
 use Rattle.laws.specs.Keeping.{Due, kept-by, Kept}
 use Rattle.laws.specs.Conjuncts.{Claimed, claimed-says, claimed-row, claimed-by-name, claimed-of, claimed-lasts}
 use Rattle.laws.specs.Conjuncts.Claimed.{mode-low, mode-high, mark-high, payload, empty, waits, brought}
@@ -26,7 +27,7 @@ use Rattle.laws.specs.Conjuncts.{link-row, link-of, open-with}
 use Rattle.laws.specs.Conjuncts.Linked.{source-made, source-event, target-made, target-kind, has-slot, agreeing}
 use Rattle.laws.specs.Apart.{Apart, whole}
 use Rattle.laws.specs.Places.{Places, places, put-here, put-there, Places.one, Places.two}
-use Rattle.laws.specs.Counting.{count-same, count-next-no}
+use Rattle.laws.specs.Counting.{count-same, count-next-yes, count-next-no}
 
 -- the state that a new link has by its source
 abbrev first : Session → ℕ → ℕ
@@ -55,12 +56,13 @@ link-after s source d j i = go (places l i)
         is-old n (put-there s LinkSource l i source n) (put-there s LinkTarget l i d n) (put-there s LinkSlot l i j n)
         (put-there s LinkState l i (first s source) n)
 
--- what the new link needs: room, an event that is open or fired, and a slot
+-- what the new link needs: room, an event that is open or fired and has not its count of links, and a slot
 pub record Linkable (s : Session) (source d j : ℕ) : Type 0 where
   pub room : s Links 0 + 1 ≤ mostLinks
   pub source-made : holds (made s source)
   pub source-event : s Kind source ≡ event
   pub source-state : s EventState source ≡ eventOpen ⊎ s EventState source ≡ fired
+  pub source-spare : holds (hasItsCount s source) → ⊥
   pub target-made : holds (made s d)
   pub target-kind : holds (isKind s task d or isUserEvent s d)
   pub has-slot : holds (hasSlot s d j)
@@ -252,10 +254,35 @@ module _ (s : Session) (source d j : ℕ) (c : Linkable s source d j) (p : Spot 
       go (is-old n _ b z e) =
           a .others settled t l k m y (i, omega arith, ((sym b ∙ x .0, sym z ∙ x .1), λ q. o (e ∙ q)))
 
+  -- the sources and states of the links that were there, and of the new one
+  old-source : (i : ℕ) → i < s Links 0 + 1 → after LinkSource i ≡ s LinkSource i
+  old-source i b = go (link-after s source d j i)
+    where
+      go : LinkAfter s source d j i → after LinkSource i ≡ s LinkSource i
+      go (is-new q _ _ _ _) = absurd (omega arith)
+      go (is-old _ a _ _ _) = a
+
+  old-state : (i : ℕ) → i < s Links 0 + 1 → after LinkState i ≡ s LinkState i
+  old-state i b = still-led (s LinkTarget i) (s LinkSlot i) i b (refl, refl) .1
+
+  new-source : after LinkSource (s Links 0 + 1) ≡ source
+  new-source = go (link-after s source d j (s Links 0 + 1))
+    where
+      go : LinkAfter s source d j (s Links 0 + 1) → after LinkSource (s Links 0 + 1) ≡ source
+      go (is-new _ a _ _ _) = a
+      go (is-old m _ _ _ _) = absurd (m refl)
+
+  new-state : after LinkState (s Links 0 + 1) ≡ delivered → ⊥
+  new-state q = go (link-after s source d j (s Links 0 + 1))
+    where
+      go : LinkAfter s source d j (s Links 0 + 1) → ⊥
+      go (is-new _ _ _ _ z) = undelivered (sym z ∙ q)
+      go (is-old m _ _ _ _) = m refl
+
   -- the new link is not delivered, and the states of the others are as they were
   new-dropped : holds (says dropped after)
   unfolding newLink put
-  new-dropped = subst (λ (n : ℕ). s Dropped 0 ≤ n) (same-count ∙ sym (count-next-no l now no-more)) (a .others dropped)
+  new-dropped = subst (λ (n : ℕ). s Dropped 0 ≤ n) (same-count ∙ sym (count-next-no l now new-state)) (a .others dropped)
     where
       l : ℕ
       l = s Links 0 + 1
@@ -266,18 +293,44 @@ module _ (s : Session) (source d j : ℕ) (c : Linkable s source d j) (p : Spot 
       now : ℕ → Formula
       now i = after LinkState i ≐ delivered
 
-      same-state : (i : ℕ) → i < l → after LinkState i ≡ s LinkState i
-      same-state i b = still-led (s LinkTarget i) (s LinkSlot i) i b (refl, refl) .1
-
       same-count : count l before ≡ count l now
-      same-count = count-same l before now (λ i b e. same-state i b ∙ e) (λ i b e. sym (same-state i b) ∙ e)
+      same-count = count-same l before now (λ i b e. old-state i b ∙ e) (λ i b e. sym (old-state i b) ∙ e)
 
-      no-more : after LinkState l ≡ delivered → ⊥
-      no-more e = go (link-after s source d j l)
-        where
-          go : LinkAfter s source d j l → ⊥
-          go (is-new _ _ _ _ z) = undelivered (sym z ∙ e)
-          go (is-old m _ _ _ _) = m refl
+  -- a counted event has one link more if it is the source, and as many delivered as before
+  module _ (e : ℕ) where
+    old-links : count (s Links 0 + 1) (leadsFrom after e) ≡ linksFrom s e
+    old-links =
+        count-same (s Links 0 + 1) (leadsFrom after e) (leadsFrom s e)
+        (λ i b x. sym (old-source i b) ∙ x) (λ i b x. old-source i b ∙ x)
+
+    same-served : count (s Links 0 + 1 + 1) (servedFrom after e) ≡ deliveredFrom s e
+    same-served =
+        count-next-no (s Links 0 + 1) (servedFrom after e) (λ x. new-state (x .1))
+        ∙ count-same (s Links 0 + 1) (servedFrom after e) (servedFrom s e)
+        (λ i b x. (sym (old-source i b) ∙ x .0, sym (old-state i b) ∙ x .1))
+        (λ i b x. (old-source i b ∙ x .0, old-state i b ∙ x .1))
+
+    has-spare : holds (isCounted s e) → source ≡ e → linksFrom s e + 1 ≤ s EventCount e
+    has-spare x q = go (decide (s EventCount e ≼ linksFrom s e))
+      where
+        go : Case (s EventCount e ≼ linksFrom s e) → linksFrom s e + 1 ≤ s EventCount e
+        go (it-does l) = absurd (c .source-spare (subst (λ (k : ℕ). holds (hasItsCount s k)) (sym q) (x, l)))
+        go (it-does-not m) = omega arith
+
+    within-count : holds (isCounted s e) → linksFrom s e ≤ s EventCount e
+        → count (s Links 0 + 1 + 1) (leadsFrom after e) ≤ s EventCount e
+    within-count x l = go (decide (source ≐ e))
+      where
+        go : Case (source ≐ e) → count (s Links 0 + 1 + 1) (leadsFrom after e) ≤ s EventCount e
+        go (it-does q) =
+            let one-more = count-next-yes (s Links 0 + 1) (leadsFrom after e) (new-source ∙ q) in
+            let as-before = old-links in
+            let spare = has-spare x q in
+            omega arith
+        go (it-does-not n) =
+            let no-more = count-next-no (s Links 0 + 1) (leadsFrom after e) (λ z. n (sym new-source ∙ z)) in
+            let as-before = old-links in
+            omega arith
 
   new-noLink : (i : ℕ) → (s Links 0 + 1 ≡ i → ⊥) → holds (noLink s i) → holds (noLink after i)
   new-noLink i n x = go (link-after s source d j i)
@@ -291,6 +344,10 @@ module _ (s : Session) (source d j : ℕ) (c : Linkable s source d j) (p : Spot 
   shows counts due = let h = a .others counts in (h .0, (h .1 .0, c .room))
   shows links due = λ i l. new-link i (a .others links i) l
   shows oneLink due = new-oneLink
+  shows countedEvents due =
+      λ e b x.
+      let y = a .others countedEvents e b x in
+      (within-count e x (y .0), λ z. y .1 (sym (same-served e) ∙ z))
   shows dropped due = new-dropped
   shows freeLinks due =
       let h = a .others freeLinks in

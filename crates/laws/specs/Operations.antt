@@ -7,7 +7,7 @@ use native.Mathlib.Omega.{arith}
 use lib.Dec.{T}
 use lib.ListN.{getD}
 use Rattle.session.specs.Table.{Session}
-use Rattle.session.specs.Names.{event, task, mostLinks}
+use Rattle.session.specs.Names.{event, task, counted, mostLinks}
 use Rattle.session.specs.declared.Field.the-variants.{Objects, Links}
 use Rattle.rules.specs.declared.Operation.{Operation}
 use Rattle.rules.specs.Formula.{holds, choose, test, Formula._≐_, Formula._≼_, Formula._and_, not}
@@ -15,7 +15,7 @@ use Rattle.rules.specs.EventTypes.{firesAtFirst}
 use Rattle.rules.specs.FormulaLaws.{choose-case}
 use Rattle.rules.specs.Checks.{Check, makesLink, taskSlots}
 use Rattle.rules.specs.Checks.{templateChecks, taskChecks, eventChecks, blockChecks, dependenceChecks, satisfyChecks}
-use Rattle.rules.specs.Checks.{releaseChecks, destroyChecks, deliverChecks, grantChecks, startChecks, endChecks}
+use Rattle.rules.specs.Checks.{releaseChecks, destroyChecks, deliverChecks, grantChecks, startChecks, endChecks, countedChecks}
 use Rattle.rules.specs.Effects.{newTemplate, newEvent, makeTask, newBlock, depend, satisfyEvent, release, destroy, deliver}
 use Rattle.rules.specs.Effects.{grant, start, end}
 use Rattle.rules.specs.Sound.{kept, sound}
@@ -24,7 +24,7 @@ use Rattle.rules.specs.Book.{enterDeliver, enterStart, enterEnd}
 use Rattle.rules.specs.Demand.{moves}
 use Rattle.rules.specs.Step.{Rule, rules, ruleOf, unknown, arg, after, outcome, entered}
 use Rattle.rules.specs.Step.{templateRule, taskRule, eventRule, blockRule, dependenceRule, satisfyRule, releaseRule, destroyRule}
-use Rattle.rules.specs.Step.{deliverRule, grantRule, startRule, endRule}
+use Rattle.rules.specs.Step.{deliverRule, grantRule, startRule, endRule, countedRule}
 use Rattle.laws.specs.Keeping.{Kept}
 use Rattle.laws.specs.Met.{Checked, numbered, all-met, by-number}
 use Rattle.laws.specs.Accepted.{Accepted}
@@ -44,7 +44,7 @@ use Rattle.laws.specs.Left.{left}
 use Rattle.laws.specs.Falling.{deliver-falls, grant-falls, start-falls, end-falls}
 use Rattle.laws.specs.Template.{template-keeps}
 use Rattle.laws.specs.Task.{task-keeps}
-use Rattle.laws.specs.Event.{event-keeps}
+use Rattle.laws.specs.Event.{event-keeps, counted-keeps}
 use Rattle.laws.specs.Block.{block-keeps}
 use Rattle.laws.specs.Dependence.{dependence-keeps}
 use Rattle.laws.specs.Satisfy.{satisfy-keeps}
@@ -159,12 +159,12 @@ event-proved =
           let a1 = e 1 (omega arith) in
           record {
             asks = λ i. eventChecks s (a0 i) (a1 i);
-            does = λ i. newEvent s (s Objects 0 + 1) (a1 i);
+            does = λ i. newEvent s (s Objects 0 + 1) (a1 i) 0;
             makes = refl;
           };
       keeps = λ s o m k. event-keeps s _ _ m k;
-      undoes-nothing = λ s o m h. later-newEvent _ _ (later-same s) (omega arith);
-      relates = λ s b o m k r. related-event s b _ r;
+      undoes-nothing = λ s o m h. later-newEvent _ _ _ (later-same s) (omega arith);
+      relates = λ s b o m k r. related-event s b _ _ r;
       falls = λ m. absurd (omega arith);
       starts = λ n b o h. refl;
       makes-few = λ s o m. let room = m 20 in omega arith;
@@ -388,6 +388,28 @@ end-proved =
       makes-none = λ e s o. refl;
     }
 
+counted-proved : Proved 13 countedRule
+unfolding enter enterObject test
+counted-proved =
+    record {
+      numbers = λ s o. tt;
+      own = λ s o p e.
+          let a0 = e 0 (omega arith) in
+          let a1 = e 1 (omega arith) in
+          record {
+            asks = λ i. countedChecks s (a0 i) (a1 i);
+            does = λ i. newEvent s (s Objects 0 + 1) counted (a1 i);
+            makes = refl;
+          };
+      keeps = λ s o m k. counted-keeps s _ _ m k;
+      undoes-nothing = λ s o m h. later-newEvent _ _ _ (later-same s) (omega arith);
+      relates = λ s b o m k r. related-event s b _ _ r;
+      falls = λ m. absurd (omega arith);
+      starts = λ n b o h. refl;
+      makes-few = λ s o m. let room = m 20 in omega arith;
+      makes-none = λ e. absurd (omega arith);
+    }
+
 -- a code that there is not is never accepted
 unknown-proved : (code : ℕ) → Proved code unknown
 unknown-proved code =
@@ -417,7 +439,13 @@ all-proved = (
           block-proved,
           (
             dependence-proved,
-            (satisfy-proved, (release-proved, (destroy-proved, (deliver-proved, (grant-proved, (start-proved, (end-proved, tt))))))),
+            (
+              satisfy-proved,
+              (
+                release-proved,
+                (destroy-proved, (deliver-proved, (grant-proved, (start-proved, (end-proved, (counted-proved, tt)))))),
+              ),
+            ),
           ),
         ),
       ),

@@ -16,7 +16,7 @@ use Rattle.rules.specs.EventTypeLaws.{fires-no-latch}
 use Rattle.rules.specs.FormulaLaws.{Case, decide, Case.it-does, Case.it-does-not}
 use Rattle.rules.specs.Reading.{made, isKind, isUserEvent, isGone, hasSlot}
 use Rattle.rules.specs.Checks.{deliverChecks}
-use Rattle.rules.specs.Effects.{deliver, drops, satisfySlot, satisfyEvent}
+use Rattle.rules.specs.Effects.{expire, bring, deliver, drops, satisfySlot, satisfyEvent}
 use Rattle.rules.specs.Sound.{kept}
 use Rattle.rules.specs.Book.{Book, enter, enterDeliver, satisfies, Column}
 use Rattle.laws.specs.Met.{Checked}
@@ -24,8 +24,11 @@ use Rattle.laws.specs.Outside.{outside-same, outside-put, outside-within
 use Rattle.laws.specs.BookEntries.{outside-enter}
 use Rattle.laws.specs.Frame.{AllOf, Shown.due}
 use Rattle.laws.specs.Rows.Name.{counts, taskParts, eventParts, slots, links, states, settled}
-use Rattle.laws.specs.Keeping.{Kept}
-use Rattle.laws.specs.ByName.{by-name}
+use Rattle.laws.specs.Keeping.{but, Kept}
+use Rattle.laws.specs.ByName.{by-name, kept-of}
+use Rattle.laws.specs.Writes.{expire-writes}
+use Rattle.laws.specs.Expire.{StateAfter, state-after, source-fired, gone-fired, still-checked, expire-keeps}
+use Rattle.laws.specs.Expire.StateAfter.{goes, stays}
 use Rattle.laws.specs.Conjuncts.{event-by-name, Event.state-low, Event.state-high, task-by-name}
 use Rattle.laws.specs.Conjuncts.{Task.state-high as task-high}
 use Rattle.laws.specs.Conjuncts.{link-row, open-with, cut-with, state-by-name, State.later-full}
@@ -157,21 +160,8 @@ module _ (s : Session) (b : Book) (l : ℕ) (c : Checked (deliverChecks s l)) (k
   low = low-slot s d j (x taskParts d target-place) has-slot
 
   -- the source has fired, so the book has its payload
-  source-fired : HadFired (s EventState (s LinkSource l))
-  source-fired =
-      let e = s LinkSource l in
-      let range = event-by-name e s (is source-event) (x eventParts e (made-low s e (x counts) (is source-made))) in
-      let not-open = open-with (s LinkState l) (s EventState e) (is agreeing) .1 in
-      let not-cut = cut-with (s LinkState l) (s EventState e) (is agreeing) .1 in
-      go (s EventState e) (decide (s EventState e ≐ fired)) (range state-low) (range state-high)
-      (λ o. let z = not-open o in let w = was in omega arith) (λ o. let z = not-cut o in let w = was in omega arith)
-    where
-      go : (e : ℕ) → Case (e ≐ fired) → 1 ≤ e → e ≤ destroyedFired → (e ≡ eventOpen → ⊥) → (e ≡ destroyedUnfired → ⊥) → HadFired e
-      go e (it-does f) a c m n = inl f
-      go e (it-does-not f) a c m n = inr (omega arith)
-
   brought : b Column.Has (b Column.LinkSource l) ≡ brings s l
-  brought = ap (b Column.Has) (r same-sources l) ∙ r fired-has (s LinkSource l) source-fired
+  brought = ap (b Column.Has) (r same-sources l) ∙ r fired-has (s LinkSource l) (source-fired s l c (but (settled ∷ []) x))
 
   struck : Book
   struck = enter b Column.Struck l 1
@@ -255,11 +245,39 @@ module _ (s : Session) (b : Book) (l : ℕ) (c : Checked (deliverChecks s l)) (k
   is-user n (inl t) = absurd (n t)
   is-user n (inr u) = u
 
-  pub related-delivery : Related (deliver s l) (enterDeliver b l)
+  related-brought : Related (bring s l) (enterDeliver b l)
   unfolding d j
-  related-delivery = go (delivery s l)
+  related-brought = go (delivery s l)
     where
-      go : Delivered s l → Related (deliver s l) (enterDeliver b l)
+      go : Delivered s l → Related (bring s l) (enterDeliver b l)
       go (drops-it y q) = rw (q, entry-is) (related-thrown s filled l (dropped y target-kind))
       go (fills-task n t q) = rw (q, entry-is) (fills-slot n t)
       go (fills-event n t q) = rw (q, entry-is) (fills-user n (is-user t target-kind))
+
+-- A counted event that goes with the last of its links had fired: the book has it satisfied, with the same payload.
+related-expire : (s : Session) (b : Book) (l : ℕ) → Checked (deliverChecks s l) → Kept s → Related s b → Related (expire s l) b
+unfolding expire put
+related-expire s b l c x r = related-by (expire-writes s l) (outside-same b) r shows
+  where
+    -- what was open, or had fired, before
+    still-open : (e : ℕ) → StateAfter s l e → expire s l EventState e ≡ eventOpen → s EventState e ≡ eventOpen
+    still-open e (stays q) o = sym q ∙ o
+    still-open e (goes p y q) o = absurd (omega arith)
+
+    had-fired : (e : ℕ) → StateAfter s l e → HadFired (expire s l EventState e) → HadFired (s EventState e)
+    had-fired e (stays q) f = rw q at f
+    had-fired e (goes p y q) f = gone-fired s l c (but (settled ∷ []) x) e p
+
+    shows : (k : Clause) → Due (EventState ∷ []) [] k → says k (expire s l) b
+    shows fired-has due = λ e f. r fired-has e (had-fired e (state-after s l e) f)
+    shows open-has due = λ e o. r open-has e (still-open e (state-after s l e) o)
+    shows satisfied-agree due =
+        λ e t. let y = r satisfied-agree e t in
+        (λ o. y .0 (still-open e (state-after s l e) o), λ f. y .1 (had-fired e (state-after s l e) f))
+
+pub related-delivery : (s : Session) (b : Book) (l : ℕ) → Checked (deliverChecks s l) → holds (kept s) → Related s b
+    → Related (deliver s l) (enterDeliver b l)
+unfolding deliver
+related-delivery s b l c k r =
+    related-brought (expire s l) b l (still-checked s l c) (kept-of (expire s l) (expire-keeps s l c (by-name s k)))
+    (related-expire s b l c (by-name s k) r)

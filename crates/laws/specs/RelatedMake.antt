@@ -10,7 +10,7 @@ use Rattle.session.specs.Table.{Session, put, at, pick}
 use Rattle.session.specs.declared.Field.{Field}
 use Rattle.session.specs.declared.Field.the-variants.{Objects, Kind, TemplateState, TemplateCount, TaskState, TaskCreator}
 use Rattle.session.specs.declared.Field.the-variants.{TaskSlots, TaskFinish, TaskOutput, EventState, EventType, EventPayload}
-use Rattle.session.specs.declared.Field.the-variants.{EventTally, BlockState, BlockCreator, BlockHeld, SlotMark, SlotPayload}
+use Rattle.session.specs.declared.Field.the-variants.{EventTally, EventCount, BlockState, BlockCreator, BlockHeld, SlotMark, SlotPayload}
 use Rattle.session.specs.Names.{template, task, event, block, fresh, waiting, resolved, running, ended, taskDestroyed}
 use Rattle.session.specs.Names.{eventOpen, doomed, output, unknownCount}
 use Rattle.rules.specs.Formula.{holds, test, choose, Formula._≐_}
@@ -138,18 +138,18 @@ satisfied-new h ty type state column z x e = go (places h e)
         (λ l. (λ o. ap column (sym p) ∙ z, λ f. absurd (unfired eventOpen (omega arith) (omega arith) f)))
     go (two n) = rw (set-there type h ty e n, set-there state h eventOpen e n) (x e)
 
-event-at : (s : Session) (b : Book) (ty : ℕ) → Related s b
-    → Related (newEvent s (s Objects 0 + 1) ty) (enter (entry b (s Objects 0 + 1) event) Column.EventType (s Objects 0 + 1) ty)
+event-at : (s : Session) (b : Book) (ty n : ℕ) → Related s b
+    → Related (newEvent s (s Objects 0 + 1) ty n) (enter (entry b (s Objects 0 + 1) event) Column.EventType (s Objects 0 + 1) ty)
 unfolding newEvent new put enter test
-event-at s b ty r =
-    related-made event r (outside-put _ _ (outside-put _ _ (outside-put _ _ (outside-same _))))
+event-at s b ty n r =
+    related-made event r (outside-put _ _ (outside-put _ _ (outside-put _ _ (outside-put _ _ (outside-same _)))))
     (outside-enter _ _ (outside-same _)) shows
   where
     h : ℕ
     h = s Objects 0 + 1
 
-    shows : (c : Clause) → Made event (EventTally ∷ EventType ∷ EventState ∷ []) (Column.EventType ∷ []) c
-        → says c (newEvent s h ty) (enter (entry b h event) Column.EventType h ty)
+    shows : (c : Clause) → Made event (EventCount ∷ EventTally ∷ EventType ∷ EventState ∷ []) (Column.EventType ∷ []) c
+        → says c (newEvent s h ty n) (enter (entry b h event) Column.EventType h ty)
     shows same-types due = set-same h ty (r same-types)
     shows fired-has due = fired-new h (s EventState) (s EventPayload) (b Column.Has) (r fired-has)
     shows open-has due = open-new h (s EventState) (b Column.Has) (r blank-has h (omega arith)) (r open-has)
@@ -157,12 +157,12 @@ event-at s b ty r =
         satisfied-new h ty (s EventType) (s EventState) (b Column.Satisfied) (r blank-satisfied h (omega arith))
         (r satisfied-agree)
 
-pub related-event : (s : Session) (b : Book) (ty : ℕ) → Related s b
-    → Related (newEvent s (s Objects 0 + 1) ty) (enter (enterObject b event) Column.EventType (b Column.Objects 0 + 1) ty)
+pub related-event : (s : Session) (b : Book) (ty n : ℕ) → Related s b
+    → Related (newEvent s (s Objects 0 + 1) ty n) (enter (enterObject b event) Column.EventType (b Column.Objects 0 + 1) ty)
 unfolding enterObject
-related-event s b ty r =
-    subst (λ (h : ℕ). Related (newEvent s (s Objects 0 + 1) ty) (enter (entry b h event) Column.EventType h ty))
-    (sym (next-handle s b r)) (event-at s b ty r)
+related-event s b ty n r =
+    subst (λ (h : ℕ). Related (newEvent s (s Objects 0 + 1) ty n) (enter (entry b h event) Column.EventType h ty))
+    (sym (next-handle s b r)) (event-at s b ty n r)
 
 -- a block
 blocks-new : (h : ℕ) (kind state column : ℕ → ℕ) → column h ≡ 0 → BlocksDestroyed kind state column
@@ -325,12 +325,12 @@ module _ (s : Session) (b : Book) (caller tm n finish out : ℕ) (c : Checked (t
       e = taskEntry b caller tm n finish out
 
       t′ : Session
-      t′ = newEvent t (s Objects 0 + 1 + 1) output
+      t′ = newEvent t (s Objects 0 + 1 + 1) output 0
 
       e′ : Book
       e′ = enter (enterObject e event) Column.EventType (b Column.Objects 0 + 1 + 1) output
 
       go : Case (out ≐ 1) → Related (choose (out ≐ 1) t′ t) (choose (out ≐ 1) e′ e)
       go (it-does y) =
-          rw (choose-yes (out ≐ 1) t′ t y, choose-yes (out ≐ 1) e′ e y) (related-event t e output related-newTask)
+          rw (choose-yes (out ≐ 1) t′ t y, choose-yes (out ≐ 1) e′ e y) (related-event t e output 0 related-newTask)
       go (it-does-not y) = rw (choose-no (out ≐ 1) t′ t y, choose-no (out ≐ 1) e′ e y) related-newTask

@@ -1,6 +1,6 @@
 -- Events get other states and payloads, and links other states, as by a firing and by the destroying of an event: all rules but
 -- that of the outputs last, so long as no link is delivered by it and each link agrees with its source.
-use Prim.Native.Nat.{ℕ, _+_, _<_}
+use Prim.Native.Nat.{ℕ, _+_, _≤_, _<_}
 use mathlib.Core.Path.{_≡_, refl, ap, _∙_, sym, fun-ext}
 use mathlib.Core.Bool.{Bool, true, false}
 use mathlib.Core.Logic.{_⊎_, inl, inr}
@@ -11,19 +11,21 @@ use Rattle.session.specs.TableLaws.{same-eq}
 use Rattle.session.specs.declared.Field.{Field}
 use Rattle.session.specs.declared.Field.the-variants.{Links, EventState, EventType, EventPayload, EventTally, LinkSource}
 use Rattle.session.specs.declared.Field.the-variants.{LinkState}
-use Rattle.session.specs.Names.{fired, destroyedFired, delivered, latch, evenTally}
+use Rattle.session.specs.Names.{fired, destroyedUnfired, destroyedFired, delivered, latch, evenTally}
 use Rattle.rules.specs.Formula.{Formula, holds, Formula._≐_, Formula._or_}
+use Rattle.rules.specs.Reading.{servedFrom, deliveredFrom}
 use Rattle.rules.specs.Sound.{eventPart, slot, claimed, unclaimed, isLink, noLink, pending, agrees}
 use Rattle.laws.specs.Outside.{Outside, outside-same, outside-change}
 use Rattle.laws.specs.Writes.{fireFields}
 use Rattle.laws.specs.Frame.{AllOf, DueOf, Shown.due}
 use Rattle.laws.specs.Rows.{Name, says}
-use Rattle.laws.specs.Rows.Name.{eventParts, outputs, slots, links, latches, dropped, freeLinks, settled}
+use Rattle.laws.specs.Rows.Name.{eventParts, outputs, slots, links, latches, countedEvents, dropped, freeLinks}
+use Rattle.laws.specs.Rows.Name.{settled}
 use Rattle.laws.specs.Keeping.{But, Due, kept-by}
 use Rattle.laws.specs.Conjuncts.{Claimed, Linked, link-says, link-row, link-lasts, Linked.agreeing, claimed-says}
 use Rattle.laws.specs.Conjuncts.{claimed-row, claimed-by-name, claimed-lasts, link-by-name}
 use Rattle.laws.specs.Conjuncts.Claimed.{waits, brought}
-use Rattle.laws.specs.Counting.{count-more}
+use Rattle.laws.specs.Counting.{count-more, count-same}
 
 -- these states and payloads of events and these states of links for those that there were
 abbrev pub renewed : Session → (ℕ → ℕ) → (ℕ → ℕ) → (ℕ → ℕ) → Session
@@ -51,6 +53,7 @@ pub record Renewal (s : Session) (es ps ls : ℕ → ℕ) : Type 0 where
   pub part : (e : ℕ) → holds (eventPart s e) → holds (eventPart (renewed s es ps ls) e)
   pub latch : (e : ℕ) → s EventType e ≡ latch → (holds (hadFired (s EventState e)) → s EventTally e ≡ evenTally)
       → holds (hadFired (es e)) → s EventTally e ≡ evenTally
+  pub stays-gone : (e : ℕ) → destroyedUnfired ≤ s EventState e → destroyedUnfired ≤ es e
   pub still-delivered : (l : ℕ) → s LinkState l ≡ delivered → ls l ≡ delivered
   pub was-delivered : (l : ℕ) → ls l ≡ delivered → s LinkState l ≡ delivered
   pub payload : (l : ℕ) → l < s Links 0 + 1 → s LinkState l ≡ delivered → ps (s LinkSource l) ≡ s EventPayload (s LinkSource l)
@@ -107,6 +110,13 @@ module _ (s : Session) (es ps ls : ℕ → ℕ) (n : Renewal s es ps ls) where
   unfolding change
   renewed-noLink l (source, (target, (slot, state))) = (source, (target, (slot, n .no-link l state)))
 
+  -- as many links from an event are delivered as were
+  same-served : (e : ℕ) → deliveredFrom (renewed s es ps ls) e ≡ deliveredFrom s e
+  unfolding change
+  same-served e =
+      count-same (s Links 0 + 1) (servedFrom (renewed s es ps ls) e) (servedFrom s e)
+      (λ l b x. (x .0, n .was-delivered l (x .1))) (λ l b x. (x .0, n .still-delivered l (x .1)))
+
   -- all rules but that of the outputs
   module _ (h : But (outputs ∷ []) s) where
     shows : (m : Name) → Due fireFields (outputs ∷ []) m → holds (says m (renewed s es ps ls))
@@ -115,6 +125,8 @@ module _ (s : Session) (es ps ls : ℕ → ℕ) (n : Renewal s es ps ls) where
     shows slots due = λ i l j b. renewed-slot i j (h slots i l j b)
     shows links due = λ l b. renewed-link l (h links l b)
     shows latches due = λ e l x. n .latch e (x .1 .0) (λ f. h latches e l (x .0, (x .1 .0, f))) (x .1 .1)
+    shows countedEvents due =
+        λ e b x. let y = h countedEvents e b x in (y .0, λ q. n .stays-gone e (y .1 (sym (same-served e) ∙ q)))
     shows dropped due =
         let d = h dropped in
         let was : ℕ → Formula = λ l. s LinkState l ≐ delivered in

@@ -10,7 +10,7 @@ use Rattle.session.specs.declared.Field.{Field}
 use Rattle.session.specs.declared.Field.the-variants.{Objects, Links, Dropped, Kind, TemplateState, TemplateCount, TaskState}
 use Rattle.session.specs.declared.Field.the-variants.{TaskCreator, TaskSlots, TaskFinish, TaskOutput, EventState, EventType}
 use Rattle.session.specs.declared.Field.the-variants.{EventPayload, EventTally, BlockState, BlockCreator, BlockHeld, SlotMode}
-use Rattle.session.specs.declared.Field.the-variants.{SlotMark, SlotPayload, LinkSource, LinkTarget, LinkSlot, LinkState}
+use Rattle.session.specs.declared.Field.the-variants.{SlotMark, SlotPayload, LinkSource, LinkTarget, LinkSlot, LinkState, EventCount}
 use Rattle.rules.specs.Formula.{Formula}
 use Rattle.rules.specs.Sound as rule
 use Rattle.laws.specs.Parts as part
@@ -22,7 +22,7 @@ use Rattle.laws.specs.Frame.{Row, over, over-each}
 
 pub data Name : Type 0 where
   counts kinds templateParts taskParts eventParts blockParts roots creators outputs slots links oneLink states blocks : Name
-  compatible latches dropped freeSlots freeLinks settled : Name
+  compatible latches countedEvents dropped freeSlots freeLinks settled : Name
   deriving Discrete as same-name
 
 abbrev slotFields : List Field
@@ -47,7 +47,8 @@ row taskParts =
     (own-words (λ s h. refl))
 row eventParts =
     over-each an-event every-handle (Objects ∷ Kind ∷ fieldsOf an-event) part.eventParts (λ s. refl) (λ s. refl)
-    (λ s h n z. inr (n, (z EventState refl, (z EventType refl, (z EventPayload refl, z EventTally refl))))) more-words
+    (λ s h n z. inr (n, (z EventState refl, (z EventType refl, (z EventPayload refl, (z EventTally refl, z EventCount refl))))))
+    more-words
 row blockParts =
     over-each a-block every-handle (Objects ∷ Kind ∷ fieldsOf a-block) part.blockParts (λ s. refl) (λ s. refl)
     (λ s h n z. inr (n, (z BlockState refl, (z BlockCreator refl, z BlockHeld refl)))) more-words
@@ -72,6 +73,10 @@ row compatible = over (Objects ∷ BlockHeld ∷ BlockCreator ∷ slotFields) ru
 row latches =
     over-each an-event made-ones (Objects ∷ Kind ∷ EventType ∷ EventState ∷ EventTally ∷ []) rule.latches
     (λ s. refl) (λ s. refl) (λ s h n z x. absurd (n (x .0))) (own-words (λ s h. refl))
+row countedEvents =
+    over-each an-event made-ones (Objects ∷ Links ∷ EventType ∷ EventState ∷ EventCount ∷ LinkSource ∷ LinkState ∷ [])
+    rule.countedEvents (λ s. refl) (λ s. refl) (λ s h n z x. let none = z EventType refl in absurd (omega arith))
+    (own-words (λ s h. refl))
 row dropped = over (Dropped ∷ Links ∷ LinkState ∷ []) rule.dropped (λ s. refl)
 row freeSlots = over (Objects ∷ slotFields) part.freeSlots (λ s. refl)
 row freeLinks = over (Links ∷ linkFields) part.freeLinks (λ s. refl)

@@ -8,7 +8,7 @@ use Rattle.session.specs.Table.{Session, pick, same}
 use Rattle.session.specs.declared.Field.{Field}
 use Rattle.session.specs.declared.Field.the-variants.{Objects, Kind, TemplateState, TemplateCount, TaskState, TaskCreator}
 use Rattle.session.specs.declared.Field.the-variants.{TaskSlots, TaskFinish, TaskOutput, EventState, EventType, EventPayload}
-use Rattle.session.specs.declared.Field.the-variants.{EventTally, BlockState, BlockCreator, BlockHeld}
+use Rattle.session.specs.declared.Field.the-variants.{EventTally, EventCount, BlockState, BlockCreator, BlockHeld}
 use Rattle.session.specs.Names.{template, task, event, block, objectPlaces}
 use Rattle.rules.specs.Formula.{Formula, holds, Formula._≐_, Formula.each}
 use Rattle.laws.specs.Outside.{among}
@@ -30,7 +30,7 @@ kindOf a-block = block
 abbrev pub fieldsOf : Sort → List Field
 fieldsOf a-template = TemplateState ∷ TemplateCount ∷ []
 fieldsOf a-task = TaskState ∷ TaskCreator ∷ TaskSlots ∷ TaskFinish ∷ TaskOutput ∷ []
-fieldsOf an-event = EventState ∷ EventType ∷ EventPayload ∷ EventTally ∷ []
+fieldsOf an-event = EventState ∷ EventType ∷ EventPayload ∷ EventTally ∷ EventCount ∷ []
 fieldsOf a-block = BlockState ∷ BlockCreator ∷ BlockHeld ∷ []
 
 -- the fields with a word for each object

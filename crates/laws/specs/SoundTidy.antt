@@ -12,7 +12,7 @@ use Rattle.session.specs.TableLaws.{Each, Each._also_, Each.done, ofClass, at-f
 use Rattle.session.specs.Renew.{Tidy, used}
 use Rattle.session.specs.RenewLaws.{more-places}
 use Rattle.session.specs.declared.Field.{Field}
-use Rattle.session.specs.declared.Field.the-variants.{Objects, Links}
+use Rattle.session.specs.declared.Field.the-variants.{Objects, Links, EventState, EventType, EventPayload, EventTally, EventCount}
 use Rattle.rules.specs.Formula.{holds}
 use Rattle.rules.specs.Sound.{sound, noSlot, noLink}
 use Rattle.laws.specs.SlotPlaces.{place-split, place-low}
@@ -56,7 +56,10 @@ module _ (s : Session) (r : Sound s) where
   handles-past i h l =
       let b = past-handle i h l in
       let none : (k : Sort) → Each (λ f. s f i ≡ 0) (fieldsOf k) = λ k. nothing s i (fieldsOf k) (b .fields k) in
-      b .kind also joined (none a-template) (joined (none a-task) (joined (none an-event) (none a-block)))
+      let e = b .fields an-event in
+      b .kind also joined (none a-template) (joined (none a-task)
+      (e EventState refl also e EventType refl also e EventPayload refl also e EventTally refl also joined (none a-block)
+      (e EventCount refl also done)))
 
   slots-past : (i : ℕ) → 16 * (s Objects 0 + 1) ≤ i → i < slotPlaces → Each (λ f. s f i ≡ 0) (ofClass perSlot fields)
   slots-past i h l = let n = past-slot i h l in n .0 also n .1 .0 also n .1 .1 also done

@@ -189,28 +189,28 @@ module _ (s : Session) (caller n finish out : ℕ) where
           again outputs due = made-outputs (born room) h old-outputs here
 
       abbrev both : Session
-      both = newEvent after (next s + 1) output
+      both = newEvent after (next s + 1) output 0
 
       module _ (room′ : next s + 1 ≤ mostObjects) where
         output-born : Born after both an-event
         unfolding newTask new put
-        output-born = event-born after output room′
+        output-born = event-born after output 0 room′
 
         output-shows : (m : Name) → New an-event m → holds (says-of m both (next s + 1))
         unfolding newTask new put
-        output-shows = event-shows after output output-known room′ rest-after
+        output-shows = event-shows after output 0 output-known (inr ((λ e. omega arith), refl)) room′ rest-after
 
         follower-kind : both Kind (next s + 1) ≡ event
         unfolding newTask new put
-        follower-kind = event-kind after output
+        follower-kind = event-kind after output 0
 
         follower-type : both EventType (next s + 1) ≡ output
         unfolding newTask new put
-        follower-type = event-type after output
+        follower-type = event-type after output 0
 
         follower-open : both EventState (next s + 1) ≡ 1
         unfolding newTask new put
-        follower-open = event-open after output
+        follower-open = event-open after output 0
 
         task-kind : both Kind (next s) ≡ task
         unfolding newTask new put

@@ -5,11 +5,11 @@ use Rattle.session.specs.Table.{Session}
 use Rattle.session.specs.declared.Field.{Field}
 use Rattle.session.specs.declared.Field.the-variants.{Objects, Links, Kind, TemplateState, TemplateCount, TaskState}
 use Rattle.session.specs.declared.Field.the-variants.{TaskCreator, TaskSlots, TaskFinish, TaskOutput, EventState, EventType}
-use Rattle.session.specs.declared.Field.the-variants.{EventPayload, EventTally, BlockState, BlockCreator, BlockHeld}
+use Rattle.session.specs.declared.Field.the-variants.{EventPayload, EventTally, EventCount, BlockState, BlockCreator, BlockHeld}
 use Rattle.session.specs.declared.Field.the-variants.{SlotMark, SlotPayload, LinkSource, LinkTarget, LinkSlot, LinkState}
 use Rattle.rules.specs.Formula.{Formula}
 use Rattle.rules.specs.Effects.{new, newTemplate, newEvent, newTask, newBlock, fire, fireOne, satisfySlot}
-use Rattle.rules.specs.Effects.{newLink, buryDoomed, letGo, release, destroyEvent}
+use Rattle.rules.specs.Effects.{newLink, buryDoomed, letGo, release, destroyEvent, expire}
 use Rattle.rules.specs.Effects.{grant, start}
 use Rattle.laws.specs.Outside.{Outside, outside-same, outside-put, outside-change}
 
@@ -22,11 +22,11 @@ unfolding newTemplate
 template-writes s n = outside-put _ _ (outside-put _ _ (new-writes s _ _))
 
 abbrev pub eventFields : List Field
-eventFields = EventTally ∷ EventType ∷ EventState ∷ Kind ∷ Objects ∷ []
+eventFields = EventCount ∷ EventTally ∷ EventType ∷ EventState ∷ Kind ∷ Objects ∷ []
 
-pub event-writes : (s : Session) (h ty : ℕ) → Outside s (newEvent s h ty) eventFields
+pub event-writes : (s : Session) (h ty n : ℕ) → Outside s (newEvent s h ty n) eventFields
 unfolding newEvent
-event-writes s h ty = outside-put _ _ (outside-put _ _ (outside-put _ _ (new-writes s _ _)))
+event-writes s h ty n = outside-put _ _ (outside-put _ _ (outside-put _ _ (outside-put _ _ (new-writes s _ _))))
 
 abbrev pub taskFields : List Field
 taskFields = TaskOutput ∷ TaskFinish ∷ TaskSlots ∷ TaskCreator ∷ TaskState ∷ Kind ∷ Objects ∷ []
@@ -81,6 +81,10 @@ release-writes s caller b = letGo-writes s caller _
 pub destroyEvent-writes : (s : Session) (e : ℕ) → Outside s (destroyEvent s e) (LinkState ∷ EventState ∷ [])
 unfolding destroyEvent
 destroyEvent-writes s e = outside-change _ (outside-put _ _ (outside-same s))
+
+pub expire-writes : (s : Session) (l : ℕ) → Outside s (expire s l) (EventState ∷ [])
+unfolding expire
+expire-writes s l = outside-put _ _ (outside-same s)
 
 pub grant-writes : (s : Session) (t : ℕ) → Outside s (grant s t) (TaskState ∷ SlotMark ∷ [])
 unfolding grant

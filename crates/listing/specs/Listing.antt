@@ -7,6 +7,7 @@ use Rattle.rules.specs.declared.Operation.{Operation}
 use Rattle.rules.specs.Formula.{choose, Formula._≐_}
 use Rattle.rules.specs.Step.{arg}
 use Rattle.rules.specs.Arity.{fieldCount, nameOf}
+use Rattle.record.specs.RecordReading.{editionOf}
 use Rattle.record.specs.Sheet.{Contents, recordsFrom, headAt}
 use Rattle.record.specs.declared.Place.{Place}
 use Rattle.record.specs.declared.Place.the-variants.{Behind, Refused}
@@ -52,12 +53,12 @@ refusalLine k refused = beforeRecord ++ decimal k ++ beforeRefusal ++ decimal re
 unfoldable pub recordsText : ℕ → Contents → List ℕ
 recordsText k c = lines (c .operations) ++ choose (c .refused ≐ 0) [] (refusalLine (k + length (c .operations)) (c .refused))
 
--- "1" and a newline, and the records; or the refusal of the first number
-abbrev pub one : List ℕ
-one = 49 ∷ newline
+-- the edition on a line, and the records; or the refusal of the first number
+abbrev pub firstLine : ℕ → List ℕ
+firstLine edition = decimal edition ++ newline
 
 unfoldable pub textFrom : List ℕ → Place → List ℕ
-textFrom sheet (Behind first) = one ++ recordsText 1 (recordsFrom sheet (length sheet) first)
+textFrom sheet (Behind first) = firstLine (editionOf sheet) ++ recordsText 1 (recordsFrom sheet (length sheet) first)
 textFrom sheet (Refused n) = refusalLine 0 n
 
 unfoldable pub textOf : List ℕ → List ℕ

@@ -12,13 +12,14 @@ use Rattle.rules.specs.FormulaLaws.{Case, decide, choose-yes, choose-no, Case.i
 use Rattle.rules.specs.Step.{arg}
 use Rattle.record.specs.declared.Record.{Record}
 use Rattle.rules.specs.Arity.{fieldCount, nameOf}
-use Rattle.record.specs.RecordReading.{recordAt}
+use Rattle.record.specs.RecordReading.{editionOf, recordAt}
 use Rattle.record.specs.RecordRoundTrip.{Forward, record-forward}
 use Rattle.record.specs.Sheet.{followed, recordsFrom, headAt}
 use Rattle.record.specs.SheetLaws.{followed-on, followed-stop}
 use Rattle.record.specs.declared.Place.the-variants.{Behind, Refused}
 use Rattle.text.specs.Put.{Put, put-then}
-use Rattle.listing.specs.Listing.{one, fieldText, fieldsText, line, lines, refusalLine, recordsText, textFrom, textOf}
+use Rattle.listing.specs.Listing.{firstLine, fieldText, fieldsText, line, lines, refusalLine, recordsText}
+use Rattle.listing.specs.Listing.{textFrom, textOf}
 
 -- five parts, one behind the other
 pub put-five : (a b c d e : List ℕ) {out o₁ o₂ o₃ o₄ o₅ : List ℕ} {at n₁ n₂ n₃ n₄ n₅ : ℕ}
@@ -106,7 +107,7 @@ module _ (sheet : List ℕ) where
         ∙ ap (recordsText k) (choose-no (length sheet ≼ at) _ _ (λ u. omega arith))
         ∙ rw e
 
-    pub forward : r .refused ≡ 0 → Forward sheet at (r .operation) (r .next)
+    pub forward : r .refused ≡ 0 → Forward (editionOf sheet) sheet at (r .operation) (r .next)
     forward z = let w = record-forward sheet at (ap (λ (x : Record). x .refused) (sym e) ∙ z) in rw e w
 
     pub left-refused : 0 < r .refused → left sheet k at ≡ refusalLine k (r .refused)
@@ -139,6 +140,11 @@ module _ (sheet : List ℕ) where
   text-refused n e = ap (textFrom sheet) e
 
   pub text-behind : (first : ℕ) → headAt sheet ≡ Behind first
-      → textOf sheet ≡ one ++ recordsText 1 (recordsFrom sheet (length sheet) first)
+      → textOf sheet ≡ firstLine (editionOf sheet) ++ recordsText 1 (recordsFrom sheet (length sheet) first)
   unfolding textOf textFrom
   text-behind first e = ap (textFrom sheet) e
+
+  pub text-length : (first : ℕ) → headAt sheet ≡ Behind first
+      → length (textOf sheet)
+      ≡ length (decimal (editionOf sheet)) + 1 + length (recordsText 1 (recordsFrom sheet (length sheet) first))
+  text-length first e = ap length (text-behind first e) ∙ simp length-append

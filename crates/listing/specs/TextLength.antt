@@ -14,18 +14,19 @@ use Rattle.lines.specs.LineLaws.{digits-bound}
 use Rattle.rules.specs.declared.Operation.{Operation}
 use Rattle.rules.specs.Formula.{holds, test, Formula.each, Formula._≐_, Formula._≼_}
 use Rattle.rules.specs.FormulaLaws.{Case, decide, passed, choose-yes, choose-no, Case.it-does, Case.it-does-not}
-use Rattle.rules.specs.Step.{arg, lastCode}
+use Rattle.rules.specs.Step.{arg, lastCode, lastEdition}
 use Rattle.record.specs.declared.Place.{Place}
 use Rattle.record.specs.declared.Place.the-variants.{Behind, Refused}
 use Rattle.record.specs.declared.Record.{Record}
-use Rattle.rules.specs.Arity.{fieldCount, nameOf, fields-some}
-use Rattle.record.specs.RecordReading.{placed, recordAt}
-use Rattle.record.specs.Writing.{fieldBytes, recordBytes, isRecordable}
-use Rattle.record.specs.Sheet.{headAt, headChecks, headRefusal, firstRecord}
+use Rattle.rules.specs.Arity.{isCode, fieldCount, nameOf, fields-some}
+use Rattle.record.specs.RecordReading.{placed, editionOf, recordAt}
+use Rattle.record.specs.Writing.{fieldBytes, recordBytes}
+use Rattle.record.specs.Sheet.{headAt, headChecks, headRefusal, firstRecord, recordsFrom}
 use Rattle.record.specs.Refusals.{refusal-most}
 use Rattle.record.specs.RecordRoundTrip.{record-refusals, record-again}
 use Rattle.record.specs.SheetLaws.{head-none}
-use Rattle.listing.specs.Listing.{fieldText, fieldsText, line, refusalLine, textFrom, textOf, roomFor}
+use Rattle.listing.specs.Listing.{newline, firstLine, fieldText, fieldsText, line, refusalLine, recordsText}
+use Rattle.listing.specs.Listing.{textFrom, textOf, roomFor}
 use Rattle.listing.specs.ListingLaws.{field-length, line-length, refusal-length, forward, left, left-start, left-end}
 use Rattle.listing.specs.ListingLaws.{left-refused, left-length}
 
@@ -62,15 +63,14 @@ name-short : (code : ℕ) → code ≤ lastCode → length (nameOf code) ≤ 10
 unfolding test nameOf
 name-short code h = passed (each (suc lastCode) (λ c. length (nameOf c) ≼ 10)) refl code (omega arith)
 
-pub line-short : (op : Operation) → holds (isRecordable op) → length (line op) ≤ 16 * length (recordBytes op)
+pub line-short : (op : Operation) → holds (isCode (op .code)) → length (line op) ≤ 16 * length (recordBytes op)
 unfolding recordBytes
-line-short op h =
+line-short op known =
     let n = fieldCount (op .code) in
-    let known = h .0 in
     let code = digits-bound 1 (op .code) (omega (arith, known .1)) in
     let fields = fields-short n (arg op) in
     let name = name-short (op .code) (known .1) in
-    let some = fields-some (op .code) (h .0) in
+    let some = fields-some (op .code) known in
     let bytes = length-append (encode (op .code)) (fieldBytes n (arg op)) in
     omega (arith, line-length op, length-some (op .code), fields .0, fields .1)
 
@@ -98,46 +98,58 @@ module _ (sheet : List ℕ) (are : AreBytes sheet) (size : length sheet < 2 ^ 64
       go (it-does-not u) (it-does z) rest =
           let i : at < length sheet = omega (arith, u) in
           let f = forward sheet k at i l (recordAt sheet at) refl z in
-          let w = record-again sheet at are z in
+          let w = record-again (editionOf sheet) sheet at are z in
           let n = left-length sheet k at i l (recordAt sheet at) refl z in
-          let s = line-short (recordAt sheet at .operation) (f .recordable) in
+          let s = line-short (recordAt sheet at .operation) (f .recordable .0 .0) in
           let more = rest (omega (arith, f .onward)) (omega (arith, f .onward)) in
           omega (arith, n, s, more, w .next-place, f .inside)
       go (it-does-not u) (it-does-not p) rest =
           let i : at < length sheet = omega (arith, u) in
           let e = left-refused sheet k at i l (recordAt sheet at) refl (omega (arith, p)) in
-          omega (arith, ap length e, refusal-short k (recordAt sheet at .refused) (omega arith) (record-refusals sheet at))
+          omega (
+            arith,
+            ap length e,
+            refusal-short k (recordAt sheet at .refused) (omega arith)
+                (record-refusals (editionOf sheet) sheet at),
+          )
 
--- The first number: the place behind it is in the sheet, and no refusal of it is above 6.
-abbrev Inside : ℕ → Place → Type 0
-Inside n (Behind first) = (1 ≤ first) × (first ≤ n)
-Inside n (Refused refused) = refused ≤ 6
+-- The first number is an edition, and the place behind it is in the sheet; or it is refused, by no check above 6.
+abbrev Inside : List ℕ → Place → Type 0
+Inside sheet (Behind first) = (1 ≤ first) × (first ≤ length sheet) × (editionOf sheet ≤ lastEdition)
+Inside sheet (Refused refused) = refused ≤ 6
 
-head-as : (sheet : List ℕ) → Inside (length sheet) (headAt sheet)
+head-as : (sheet : List ℕ) → Inside sheet (headAt sheet)
 unfolding headAt placed
 head-as sheet = go (decide (headRefusal sheet ≐ 0))
   where
-    go : Case (headRefusal sheet ≐ 0) → Inside (length sheet) (placed (headRefusal sheet) (firstRecord sheet))
+    go : Case (headRefusal sheet ≐ 0) → Inside sheet (placed (headRefusal sheet) (firstRecord sheet))
     go (it-does z) =
-        let v = value-next limit32 sheet 0 1 (firstRecord sheet) (head-none sheet z) in
-        rw (choose-yes (headRefusal sheet ≐ 0) (Behind (firstRecord sheet)) (Refused (headRefusal sheet)) z) (v .1, v .2)
+        let h = head-none sheet z in
+        let v = value-next limit32 sheet 0 (editionOf sheet) (firstRecord sheet) (h .0) in
+        rw (choose-yes (headRefusal sheet ≐ 0) (Behind (firstRecord sheet)) (Refused (headRefusal sheet)) z) (v .1, v .2, h .1 .1)
     go (it-does-not n) =
         rw (choose-no (headRefusal sheet ≐ 0) (Behind (firstRecord sheet)) (Refused (headRefusal sheet)) n)
         (refusal-most 6 (headChecks sheet) (lit≤ tt, (lit≤ tt, (lit≤ tt, tt))))
 
-pub head-inside : (sheet : List ℕ) (first : ℕ) → headAt sheet ≡ Behind first → (1 ≤ first) × (first ≤ length sheet)
+pub head-inside : (sheet : List ℕ) (first : ℕ) → headAt sheet ≡ Behind first
+    → (1 ≤ first) × (first ≤ length sheet) × (editionOf sheet ≤ lastEdition)
 head-inside sheet first e = rw e at (head-as sheet)
+
+first-line-length : (edition : ℕ) → edition ≤ lastEdition → length (firstLine edition) ≤ 2
+first-line-length edition h = omega (arith, length-append (decimal edition) newline, digits-bound 0 edition (omega arith))
 
 pub text-short : (sheet : List ℕ) → AreBytes sheet → length sheet < 2 ^ 64 → length (textOf sheet) ≤ roomFor sheet
 unfolding textOf textFrom
 text-short sheet are size = go (headAt sheet) (head-as sheet)
   where
-    go : (p : Place) → Inside (length sheet) p → length (textFrom sheet p) ≤ roomFor sheet
+    go : (p : Place) → Inside sheet p → length (textFrom sheet p) ≤ roomFor sheet
     go (Behind first) i =
         omega (
           arith,
           i .0,
           i .1,
+          length-append (firstLine (editionOf sheet)) (recordsText 1 (recordsFrom sheet (length sheet) first)),
+          first-line-length (editionOf sheet) (i .2),
           ap length (left-start sheet first),
           left-short sheet are size (length sheet) 1 first (omega arith) (i .0),
         )

@@ -1,6 +1,7 @@
-// A sheet as text: its first number on a line, then a line for each record, with the operation's name in a comment.
+// A sheet as text: its edition on a line, then a line for each record, with the operation's name in a comment.
 use record::Place;
 use rules::Arity;
+use rules::LAST_EDITION;
 use rules::NAME_ENDS;
 use rules::NAMES;
 use rules::Operation;
@@ -53,7 +54,8 @@ fn write_text(sheet: &[u8], out: &mut [u8]) -> usize
     match record::read_head(sheet) {
         Place::Refused(n) => write_refusal(0, n, out, 0),
         Place::Behind(first) => {
-            let used = write_bytes(b"1\n", out, 0);
+            let end = decimal::write(record::edition_of(sheet), out, 0);
+            let used = write_bytes(b"\n", out, end);
             write_records(sheet, first, out, used)
         }
     }
@@ -68,11 +70,12 @@ fn write_records(sheet: &[u8], first: usize, out: &mut [u8], start: usize) -> us
         r (now (out .exit))
         ⌝ }
 {
+    let edition = record::edition_of(sheet);
     let mut at = first;
     let mut used = start;
     let mut k: u64 = 1;
     while at < sheet.len() {
-        let r = record::read_record(sheet, at);
+        let r = record::read_record(edition, sheet, at);
         let refused = r.refused;
         if 0 < refused {
             return write_refusal(k, refused, out, used);
@@ -100,13 +103,13 @@ fn write_line(op: Operation, out: &mut [u8], at: usize) -> usize
     write_bytes(b"\n", out, end)
 }
 
-// How many fields an operation of a known code has.
+// How many fields an operation of a known code has: the last edition knows every code.
 fn field_count(code: u64) -> usize
     requires { ⌜ holds (isCode code) ⌝ }
     ensures count { λ r. ⌜ r ≡ fieldCount code ⌝ }
     ensures five { λ r. ⌜ r ≤ 5 ⌝ }
 {
-    match rules::arity_of(code) {
+    match rules::arity_of(LAST_EDITION, code) {
         Arity::Fields(n) => n,
         Arity::Unknown => 0,
     }

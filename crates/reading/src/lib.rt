@@ -1,10 +1,13 @@
 // What a session says at any place: past a field's places nothing stands, and the answer is 0, as the rules have it; and the code
 // of what the rules say of objects, links and holds (Reading.antt), one function each. Internal: callers have shown the length of the
 // memory; its words may be any numbers.
+mod counted;
 mod holders;
 mod holds;
 mod objects;
 
+pub use counted::has_its_count;
+pub use counted::serves_last;
 pub use holders::next_holder;
 pub use holds::holds_block;
 pub use holds::is_held;

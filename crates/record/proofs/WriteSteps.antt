@@ -9,7 +9,7 @@ use lib.ListN.{length, length-append}
 use Rattle.number.specs.Number.{limit32, encode, splice}
 use Rattle.number.specs.Splice.{splice-none, splice-length, splice-then}
 use Rattle.rules.specs.declared.Operation.{Operation}
-use Rattle.rules.specs.Arity.{isCode, fieldCount, fields-few}
+use Rattle.rules.specs.Arity.{isCode, isEdition, knows, fieldCount, fields-few}
 use Rattle.rules.specs.Checks.{check, refusal}
 use Rattle.rules.specs.Formula.{holds, Formula._≐_, Formula._≼_}
 use Rattle.rules.specs.FormulaLaws.{choose-yes, choose-no}
@@ -83,38 +83,45 @@ put-all out₀ at₀ f n k out at p h before used code fits place bytes =
     )
 
 -- What writing a record comes to.
-module _ (op : Operation) (out : List ℕ) (used : ℕ) where
+module _ (edition : ℕ) (op : Operation) (out : List ℕ) (used : ℕ) where
   abbrev pub TurnedDown : ℕ → Type 0
-  TurnedDown n = (Refused n ≡ writtenAt op out used) × (out ≡ memoryAfter op out used)
+  TurnedDown n = (Refused n ≡ writtenAt edition op out used) × (out ≡ memoryAfter edition op out used)
 
-  turned-down : (n : ℕ) → 0 < n → writeRefusal op out used ≡ n → TurnedDown n
+  turned-down : (n : ℕ) → 0 < n → writeRefusal edition op out used ≡ n → TurnedDown n
   unfolding writtenAt memoryAfter
   turned-down n p e =
-      (sym (placed-refused _ _ n p e), sym (choose-no (writeRefusal op out used ≐ 0) _ _ (λ z. omega arith)))
+      (sym (placed-refused _ _ n p e), sym (choose-no (writeRefusal edition op out used ≐ 0) _ _ (λ z. omega arith)))
 
   pub no-room : (used + recordRoom ≤ length out → ⊥) → TurnedDown 1
   no-room n = turned-down 1 (lit< tt) (refusal-fails 1 (used + recordRoom ≼ length out) _ n)
 
-  module _ (room : used + recordRoom ≤ length out) where
+  pub no-edition : used + recordRoom ≤ length out → (holds (isEdition edition) → ⊥) → TurnedDown 5
+  no-edition room n =
+      turned-down 5 (lit< tt)
+      (refusal-met 1 (used + recordRoom ≼ length out) _ room ∙ refusal-fails 5 (isEdition edition) _ n)
+
+  module _ (room : used + recordRoom ≤ length out) (told : holds (isEdition edition)) where
+    two-met : writeRefusal edition op out used
+        ≡ refusal (check 4 (op .code ≼ limit32) ∷ check 6 (knows edition (op .code))
+        ∷ check 4 (within (fieldCount (op .code)) (arg op)) ∷ [])
+    two-met = refusal-met 1 (used + recordRoom ≼ length out) _ room ∙ refusal-met 5 (isEdition edition) _ told
+
     pub code-above : limit32 < op .code → TurnedDown 4
-    code-above h =
-        turned-down 4 (lit< tt)
-        (refusal-met 1 (used + recordRoom ≼ length out) _ room ∙ refusal-fails 4 (op .code ≼ limit32) _ (λ l. omega arith))
+    code-above h = turned-down 4 (lit< tt) (two-met ∙ refusal-fails 4 (op .code ≼ limit32) _ (λ l. omega arith))
 
     module _ (limited : op .code ≤ limit32) where
-      pub code-unknown : (holds (isCode (op .code)) → ⊥) → TurnedDown 6
+      pub code-unknown : (holds (knows edition (op .code)) → ⊥) → TurnedDown 6
       code-unknown n =
           turned-down 6 (lit< tt)
-          (refusal-met 1 (used + recordRoom ≼ length out) _ room
-          ∙ refusal-met 4 (op .code ≼ limit32) _ limited
-          ∙ refusal-fails 6 (isCode (op .code)) _ n)
+          (two-met ∙ refusal-met 4 (op .code ≼ limit32) _ limited ∙ refusal-fails 6 (knows edition (op .code)) _ n)
 
-      module _ (known : holds (isCode (op .code))) where
-        last-check : writeRefusal op out used ≡ refusal (check 4 (within (fieldCount (op .code)) (arg op)) ∷ [])
+      module _ (known : holds (knows edition (op .code))) where
+        code : holds (isCode (op .code))
+        code = known .0
+
+        last-check : writeRefusal edition op out used ≡ refusal (check 4 (within (fieldCount (op .code)) (arg op)) ∷ [])
         last-check =
-            refusal-met 1 (used + recordRoom ≼ length out) _ room
-            ∙ refusal-met 4 (op .code ≼ limit32) _ limited
-            ∙ refusal-met 6 (isCode (op .code)) _ known
+            two-met ∙ refusal-met 4 (op .code ≼ limit32) _ limited ∙ refusal-met 6 (knows edition (op .code)) _ known
 
         pub field-above : (n : ℕ) → n ≡ fieldCount (op .code) → (holds (within n (arg op)) → ⊥) → TurnedDown 4
         field-above n count above =
@@ -127,15 +134,15 @@ module _ (op : Operation) (out : List ℕ) (used : ℕ) where
 
           pub bytes-fit : (n ≤ 5) × (used + length (numbersBytes (op .code) n (arg op)) ≤ length out)
           unfolding recordBytes
-          bytes-fit = rw count (fields-few (op .code) known, omega (arith, record-length op (known, all-within)))
+          bytes-fit = rw count (fields-few (op .code) code, omega (arith, record-length op code all-within))
 
           pub written : (next : ℕ) (after : List ℕ)
               → next ≡ used + length (numbersBytes (op .code) n (arg op))
               → after ≡ splice out used (numbersBytes (op .code) n (arg op))
-              → (Behind next ≡ writtenAt op out used) × (after ≡ memoryAfter op out used)
+              → (Behind next ≡ writtenAt edition op out used) × (after ≡ memoryAfter edition op out used)
           unfolding writtenAt memoryAfter recordBytes
           written next after e f =
               let none = last-check ∙ refusal-met 4 (within (fieldCount (op .code)) (arg op)) [] all-within ∙ refusal-empty in (
                 ap Behind e ∙ rw count (sym (placed-none _ _ none)),
-                f ∙ rw count (sym (choose-yes (writeRefusal op out used ≐ 0) _ _ none)),
+                f ∙ rw count (sym (choose-yes (writeRefusal edition op out used ≐ 0) _ _ none)),
               )

@@ -1,5 +1,5 @@
 -- A record of a sheet, read at a place: an operation's code, then its fields (document 01, "Why an operation is turned down"
--- and "Sheets and lines"). All of it follows from the sheet's bytes and the place alone.
+-- and "Sheets and lines"). All of it follows from the edition, the bytes and the place alone.
 use Prim.Native.Nat.{ℕ, zero, suc}
 use mathlib.Core.List.{List, [], _∷_}
 use lib.Dec.{ltb}
@@ -8,7 +8,7 @@ use Rattle.number.specs.declared.Reading.{Reading}
 use Rattle.number.specs.declared.Reading.the-variants.{Value, Bad, CutShort}
 use Rattle.session.specs.Table.{pick}
 use Rattle.rules.specs.declared.Operation.{Operation}
-use Rattle.rules.specs.Arity.{fieldCount, isCode}
+use Rattle.rules.specs.Arity.{fieldCount, knows}
 use Rattle.rules.specs.Checks.{Check, check, refusal}
 use Rattle.rules.specs.Formula.{Formula, not, choose, Formula._≐_, Formula.each}
 use Rattle.record.specs.declared.Record.{Record}
@@ -90,12 +90,22 @@ module _ (bytes : List ℕ) where
   abbrev pub countAt : ℕ → ℕ
   countAt at = fieldCount (codeAt at)
 
-  -- "a record's code meets 3, 4 and 6 before its fields are read, as it says how many they are"
-  abbrev pub recordChecks : ℕ → List Check
-  recordChecks at =
-      numberChecks (readAt limit32 bytes at) (check 6 (isCode (codeAt at)) ∷ fieldChecks (firstField at) (countAt at))
+-- "a record's code meets 3, 4 and 6 before its fields are read, as it says how many they are", and "in edition 1 reading or writing
+-- it gives 6": a code is known by edition
+abbrev pub recordChecks : ℕ → List ℕ → ℕ → List Check
+recordChecks edition bytes at =
+    numberChecks (readAt limit32 bytes at)
+    (check 6 (knows edition (codeAt bytes at)) ∷ fieldChecks bytes (firstField bytes at) (countAt bytes at))
 
-  unfoldable pub recordAt : ℕ → Record
-  recordAt at =
-      answered (refusal (recordChecks at)) (operationAt (codeAt at) (firstField at) (countAt at))
-      (place bytes (firstField at) (countAt at))
+unfoldable pub recordIn : ℕ → List ℕ → ℕ → Record
+recordIn edition bytes at =
+    answered (refusal (recordChecks edition bytes at))
+    (operationAt bytes (codeAt bytes at) (firstField bytes at) (countAt bytes at))
+    (place bytes (firstField bytes at) (countAt bytes at))
+
+-- A sheet's edition is its first number, and its records are read by it.
+abbrev pub editionOf : List ℕ → ℕ
+editionOf bytes = valueOf (readAt limit32 bytes 0)
+
+abbrev pub recordAt : List ℕ → ℕ → Record
+recordAt bytes at = recordIn (editionOf bytes) bytes at

@@ -1,19 +1,20 @@
--- A whole sheet: "A sheet is the number 1, then records."
+-- A whole sheet: "A sheet is the number 1, then records." Since document 02, E4, that number is 1 or 2, the sheet's edition.
 use Prim.Native.Nat.{ℕ, zero, suc}
 use mathlib.Core.List.{List, [], _∷_, _++_}
 use lib.ListN.{length}
-use Rattle.number.specs.Number.{limit32, encode, readAt, valueOf}
+use Rattle.number.specs.Number.{limit32, encode, readAt}
 use Rattle.rules.specs.declared.Operation.{Operation}
 use Rattle.rules.specs.Checks.{Check, check, refusal}
+use Rattle.rules.specs.Arity.{isEdition}
 use Rattle.rules.specs.Formula.{choose, Formula._≐_, Formula._≼_}
 use Rattle.record.specs.declared.Place.{Place}
 use Rattle.record.specs.declared.Record.{Record}
-use Rattle.record.specs.RecordReading.{behind, numberChecks, placed, recordAt}
+use Rattle.record.specs.RecordReading.{behind, numberChecks, placed, editionOf, recordAt}
 use Rattle.record.specs.Writing.{recordBytes}
 
--- "5. The sheet's first number is not 1."
+-- "5. The sheet's first number is not 1." Document 02, E4: "Check 5 now turns down a first number other than 1 or 2."
 abbrev pub headChecks : List ℕ → List Check
-headChecks bytes = numberChecks (readAt limit32 bytes 0) (check 5 (valueOf (readAt limit32 bytes 0) ≐ 1) ∷ [])
+headChecks bytes = numberChecks (readAt limit32 bytes 0) (check 5 (isEdition (editionOf bytes)) ∷ [])
 
 abbrev pub headRefusal : List ℕ → ℕ
 headRefusal bytes = refusal (headChecks bytes)
@@ -25,13 +26,13 @@ firstRecord bytes = behind 0 (readAt limit32 bytes 0)
 unfoldable pub headAt : List ℕ → Place
 headAt bytes = placed (headRefusal bytes) (firstRecord bytes)
 
--- The sheet of a list of operations.
+-- The sheet of an edition and a list of operations.
 unfoldable pub recordsBytes : List Operation → List ℕ
 recordsBytes [] = []
 recordsBytes (op ∷ ops) = recordBytes op ++ recordsBytes ops
 
-unfoldable pub sheetOf : List Operation → List ℕ
-sheetOf ops = encode 1 ++ recordsBytes ops
+unfoldable pub sheetOf : ℕ → List Operation → List ℕ
+sheetOf edition ops = encode edition ++ recordsBytes ops
 
 -- What a sheet says: the operations of its records up to the end or the first refusal of 3 to 6, and that refusal, 0 if none.
 pub record Contents : Type 0 where

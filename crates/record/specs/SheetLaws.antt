@@ -1,20 +1,21 @@
--- Both round trips of a whole sheet. (That the refusals 3 to 6 of a sheet follow from its bytes alone is the type of contents:
--- it is given nothing else.)
+-- Both round trips of a whole sheet, of any edition. (That the refusals 3 to 6 of a sheet follow from its bytes alone is the type
+-- of contents: it is given nothing else.)
 use Prim.Native.Nat.{ℕ, zero, suc, _+_, _≤_, _<_}
 use mathlib.Core.List.{List, [], _∷_, _++_, map}
 use mathlib.Core.Path.{_≡_, refl, ap, sym, _∙_}
 use native.Mathlib.Omega.{arith}
-use lib.Dec.{lit<, lit≤}
+use lib.Dec.{lit<}
 use lib.ListN.{length, drop, length-append, length-drop, drop-of-length-le}
 use Rattle.number.specs.Number.{AreBytes, limit32, encode, readAt, valueOf}
 use Rattle.number.specs.NumberRoundTrip.{read-back, rewritten, stands-behind}
 use Rattle.number.specs.declared.Reading.the-variants.{Value, Bad, CutShort}
 use Rattle.rules.specs.declared.Operation.{Operation}
+use Rattle.rules.specs.Arity.{isEdition}
 use Rattle.rules.specs.Formula.{holds, Formula._≐_, Formula._≼_}
 use Rattle.rules.specs.FormulaLaws.{Case, decide, choose-yes, choose-no, Case.it-does, Case.it-does-not}
 use Rattle.record.specs.declared.Record.{Record}
 use Rattle.record.specs.declared.Place.the-variants.{Behind, Refused}
-use Rattle.record.specs.RecordReading.{behind, recordAt}
+use Rattle.record.specs.RecordReading.{behind, editionOf, recordAt}
 use Rattle.record.specs.Refusals.{refusal-met, refusal-fails, refusal-none, refusal-empty, number-cut, number-bad}
 use Rattle.record.specs.Refusals.{number-value, number-none, placed-none, placed-refused}
 use Rattle.record.specs.RecordRoundTrip.{record-some, record-back, record-forward, record-again}
@@ -22,10 +23,13 @@ use Rattle.record.specs.Writing.{recordBytes, isRecordable, own}
 use Rattle.record.specs.Sheet.{headRefusal, firstRecord, headAt, recordsBytes, sheetOf, Contents, stopped, followed}
 use Rattle.record.specs.Sheet.{recordsFrom, contents}
 
--- every operation of a list can be written
-pub data AllRecordable : List Operation → Type 0 where
-  none : AllRecordable []
-  one : {op : Operation} {ops : List Operation} → holds (isRecordable op) → AllRecordable ops → AllRecordable (op ∷ ops)
+-- every operation of a list can be written in an edition
+pub data AllRecordable (edition : ℕ) : List Operation → Type 0 where
+  none : AllRecordable edition []
+  one : {op : Operation} {ops : List Operation}
+      → holds (isRecordable edition op)
+      → AllRecordable edition ops
+      → AllRecordable edition (op ∷ ops)
 
 -- A record without a refusal stands in front of what follows it; one with a refusal stops.
 pub followed-on : (r : Record) (c : Contents) → r .refused ≡ 0
@@ -62,7 +66,7 @@ module _ (bytes : List ℕ) where
 
   -- The records of operations, written from a place to the end, are read as those operations.
   records-back : (steps at : ℕ) (ops : List Operation)
-      → AllRecordable ops
+      → AllRecordable (editionOf bytes) ops
       → length bytes ≤ at + steps
       → drop at bytes ≡ recordsBytes ops
       → recordsFrom bytes steps at ≡ record { refused = 0; operations = map own ops }
@@ -76,7 +80,7 @@ module _ (bytes : List ℕ) where
       let next = at + length (recordBytes op) in
       let more : length (drop at bytes) ≡ length (recordBytes op) + length (recordsBytes ops) =
       rw s (length-append (recordBytes op) (recordsBytes ops)) in
-      let read = record-back bytes at op (recordsBytes ops) r s in
+      let read = record-back (editionOf bytes) bytes at op (recordsBytes ops) r s in
       let rest = records-back steps next ops all (omega (arith, record-some op))
       (stands-behind bytes at (recordBytes op) (recordsBytes ops) s) in
       records-next steps at (omega (arith, more, record-some op, length-drop at bytes))
@@ -107,7 +111,7 @@ module _ (bytes : List ℕ) where
       go (it-does-not n) again =
           let next = records-next steps at (omega (arith, n)) in
           let f = followed-none r rest (ap (λ (c : Contents). c .refused) (sym next) ∙ e) in
-          let w = record-again bytes at are (f .0) in
+          let w = record-again (editionOf bytes) bytes at are (f .0) in
           let on = record-forward bytes at (f .0) in
           w .stands
           ∙ ap (λ (l : List ℕ). recordBytes (r .operation) ++ l) (again (omega (arith, on .onward)) (f .1))
@@ -123,26 +127,25 @@ module _ (bytes : List ℕ) where
   unfolding headAt
   head-bad next e = placed-refused _ _ 4 (lit< tt) (number-bad _ _ next e)
 
-  pub head-other : (v first : ℕ) → readAt limit32 bytes 0 ≡ Value v first → (v ≡ 1 → ⊥) → headAt bytes ≡ Refused 5
-  unfolding headAt valueOf
-  head-other v first e n =
-      placed-refused _ _ 5 (lit< tt) (number-value _ _ v first e ∙ refusal-fails 5 _ [] (λ z. n (sym (ap valueOf e) ∙ z)))
+  module _ (edition first : ℕ) (e : readAt limit32 bytes 0 ≡ Value edition first) where
+    pub head-other : (holds (isEdition edition) → ⊥) → headAt bytes ≡ Refused 5
+    unfolding headAt valueOf
+    head-other n =
+        placed-refused _ _ 5 (lit< tt) (number-value _ _ edition first e ∙ refusal-fails 5 _ [] (λ is. n (rw e at is)))
 
-  pub head-met : (first : ℕ) → readAt limit32 bytes 0 ≡ Value 1 first → headRefusal bytes ≡ 0
-  unfolding valueOf
-  head-met first e = number-value _ _ 1 first e ∙ refusal-met 5 _ [] (ap valueOf e) ∙ refusal-empty
+    pub head-met : holds (isEdition edition) → headRefusal bytes ≡ 0
+    unfolding valueOf
+    head-met is = number-value _ _ edition first e ∙ refusal-met 5 _ [] (rw e is) ∙ refusal-empty
 
-  pub head-one : (v first : ℕ) → readAt limit32 bytes 0 ≡ Value v first → v ≡ 1 → headAt bytes ≡ Behind first
-  unfolding headAt behind
-  head-one v first e u =
-      let is : readAt limit32 bytes 0 ≡ Value 1 first = e ∙ rw u in
-      placed-none _ _ (head-met first is) ∙ rw e
+    pub head-edition : holds (isEdition edition) → headAt bytes ≡ Behind first
+    unfolding headAt behind
+    head-edition is = placed-none _ _ (head-met is) ∙ rw e
 
-  pub head-none : headRefusal bytes ≡ 0 → readAt limit32 bytes 0 ≡ Value 1 (firstRecord bytes)
+  pub head-none : headRefusal bytes ≡ 0
+      → (readAt limit32 bytes 0 ≡ Value (editionOf bytes) (firstRecord bytes)) × holds (isEdition (editionOf bytes))
   head-none e =
       let n = number-none _ 0 (readAt limit32 bytes 0) e in
-      let v = refusal-none 5 _ [] (lit< tt) (n .1) in
-      n .0 ∙ ap (λ (x : ℕ). Value x (firstRecord bytes)) (v .0)
+      (n .0, refusal-none 5 _ [] (lit< tt) (n .1) .0)
 
   contents-read : headRefusal bytes ≡ 0 → contents bytes ≡ recordsFrom bytes (length bytes) (firstRecord bytes)
   unfolding contents
@@ -152,28 +155,32 @@ module _ (bytes : List ℕ) where
   unfolding contents
   contents-stopped n = choose-no (headRefusal bytes ≐ 0) _ _ n
 
--- The sheet of operations reads as those operations.
-pub sheet-back : (ops : List Operation) → AllRecordable ops
-    → contents (sheetOf ops) ≡ record { refused = 0; operations = map own ops }
-unfolding sheetOf behind
-sheet-back ops all =
-    let bytes = sheetOf ops in
-    let head = read-back limit32 bytes 0 1 (recordsBytes ops) (lit≤ tt) refl in
-    let first : firstRecord bytes ≡ 0 + length (encode 1) = rw head in
-    let stands = stands-behind bytes 0 (encode 1) (recordsBytes ops) refl in
-    contents-read bytes (head-met bytes _ head)
-    ∙ rw first (records-back bytes (length bytes) (0 + length (encode 1)) ops all (omega arith) stands)
+-- The sheet of an edition and of operations that it knows reads as those operations.
+pub sheet-back : (edition : ℕ) → holds (isEdition edition) → (ops : List Operation) → AllRecordable edition ops
+    → contents (sheetOf edition ops) ≡ record { refused = 0; operations = map own ops }
+unfolding sheetOf behind valueOf
+sheet-back edition is ops all =
+    let bytes = sheetOf edition ops in
+    let limited : edition ≤ limit32 = omega (arith, is .1) in
+    let head = read-back limit32 bytes 0 edition (recordsBytes ops) limited refl in
+    let first : firstRecord bytes ≡ 0 + length (encode edition) = rw head in
+    let own-edition : editionOf bytes ≡ edition = rw head in
+    let stands = stands-behind bytes 0 (encode edition) (recordsBytes ops) refl in
+    let known : AllRecordable (editionOf bytes) ops = rw own-edition all in
+    contents-read bytes (head-met bytes edition _ head is)
+    ∙ rw first (records-back bytes (length bytes) (0 + length (encode edition)) ops known (omega arith) stands)
 
 -- A sheet that meets none of the refusals 3 to 6 has the same bytes when what it says is written anew.
-pub sheet-again : (bytes : List ℕ) → AreBytes bytes → contents bytes .refused ≡ 0 → sheetOf (contents bytes .operations) ≡ bytes
+pub sheet-again : (bytes : List ℕ) → AreBytes bytes → contents bytes .refused ≡ 0
+    → sheetOf (editionOf bytes) (contents bytes .operations) ≡ bytes
 unfolding sheetOf
 sheet-again bytes are e = go (decide (headRefusal bytes ≐ 0))
   where
-    go : Case (headRefusal bytes ≐ 0) → sheetOf (contents bytes .operations) ≡ bytes
+    go : Case (headRefusal bytes ≐ 0) → sheetOf (editionOf bytes) (contents bytes .operations) ≡ bytes
     go (it-does z) =
         let c = contents-read bytes z in
-        let w = rewritten limit32 bytes 0 1 (firstRecord bytes) are (head-none bytes z) in
+        let w = rewritten limit32 bytes 0 (editionOf bytes) (firstRecord bytes) are (head-none bytes z .0) in
         let again = records-again bytes (length bytes) (firstRecord bytes) are (omega arith)
         (ap (λ (x : Contents). x .refused) (sym c) ∙ e) in
-        rw c (sym (w .stands ∙ ap (λ (l : List ℕ). encode 1 ++ l) again))
+        rw c (sym (w .stands ∙ ap (λ (l : List ℕ). encode (editionOf bytes) ++ l) again))
     go (it-does-not n) = absurd (n (ap (λ (x : Contents). x .refused) (sym (contents-stopped bytes n)) ∙ e))

@@ -3,14 +3,16 @@ use number::LIMIT_32;
 use number::Reading;
 use number::Written;
 use rules::Arity;
+use rules::LAST_EDITION;
 use rules::Operation;
 use rules::refusals;
 ghost use mathlib.Core.Path.{_≡_};
 ghost use Prim.Native.Nat.{_+_, _≤_, _<_};
 ghost use lib.ListN.{length, getD};
 ghost use Rattle.number.specs.Number.{encode, splice};
+ghost use Rattle.rules.specs.Arity.{isEdition};
 ghost use Rattle.rules.specs.Formula.{test};
-ghost use Rattle.record.specs.RecordReading.{recordAt, fieldsAt, refusedRecord};
+ghost use Rattle.record.specs.RecordReading.{editionOf, recordIn, fieldsAt, refusedRecord};
 ghost use Rattle.record.specs.Writing.{within, numbersBytes, writtenAt, memoryAfter};
 ghost use Rattle.record.specs.Sheet.{headAt};
 
@@ -31,15 +33,21 @@ pub enum Place {
     Refused(u64),
 }
 
-// The sheet's first number, which is 1: the place of the first record, or refusal 3, 4 or 5.
+fn is_edition(n: u64) -> bool
+    ensures { λ r. ⌜ r ≡ test (isEdition n) ⌝ }
+{
+    (1 <= n) & (n <= LAST_EDITION)
+}
+
+// The sheet's first number, which is its edition: the place of the first record, or refusal 3, 4 or 5.
 pub fn read_head(bytes: &[u8]) -> Place
     ensures { λ r. ⌜ r ≡ headAt (now (bytes .entry)) ⌝ }
 {
     match number::read(bytes, 0, LIMIT_32) {
         Reading::CutShort => Place::Refused(refusals::CUT_SHORT),
         Reading::Bad(_) => Place::Refused(refusals::BAD_NUMBER),
-        Reading::Value(version, first) => {
-            if version == 1 {
+        Reading::Value(edition, first) => {
+            if is_edition(edition) {
                 Place::Behind(first)
             } else {
                 Place::Refused(refusals::NOT_A_SHEET)
@@ -48,14 +56,25 @@ pub fn read_head(bytes: &[u8]) -> Place
     }
 }
 
-// The record at a place: an operation, or refusal 3, 4 or 6.
-pub fn read_record(bytes: &[u8], at: usize) -> Record
-    ensures { λ r. ⌜ r ≡ recordAt (now (bytes .entry)) at ⌝ }
+// A sheet's edition, 0 where its first number can not be read.
+pub fn edition_of(bytes: &[u8]) -> u64
+    ensures { λ r. ⌜ r ≡ editionOf (now (bytes .entry)) ⌝ }
+{
+    match number::read(bytes, 0, LIMIT_32) {
+        Reading::CutShort => 0,
+        Reading::Bad(_) => 0,
+        Reading::Value(edition, _) => edition,
+    }
+}
+
+// The record at a place of a sheet of an edition: an operation, or refusal 3, 4 or 6.
+pub fn read_record(edition: u64, bytes: &[u8], at: usize) -> Record
+    ensures { λ r. ⌜ r ≡ recordIn edition (now (bytes .entry)) at ⌝ }
 {
     match number::read(bytes, at, LIMIT_32) {
         Reading::CutShort => refuse(refusals::CUT_SHORT),
         Reading::Bad(_) => refuse(refusals::BAD_NUMBER),
-        Reading::Value(code, first) => match rules::arity_of(code) {
+        Reading::Value(code, first) => match rules::arity_of(edition, code) {
             Arity::Unknown => refuse(refusals::UNKNOWN_CODE),
             Arity::Fields(n) => read_fields(bytes, code, first, n),
         },
@@ -110,10 +129,11 @@ fn read_fields(bytes: &[u8], code: u64, first: usize, n: usize) -> Record
     }
 }
 
-// Writes an operation as a record behind a used length: the new used length, or refusal 1, 4 or 6, which writes no byte.
-pub fn write_record(op: Operation, out: &mut [u8], used: usize) -> Place
-    ensures answer { λ r. ⌜ r ≡ writtenAt op (now (out .entry)) used ⌝ }
-    ensures bytes { λ r. ⌜ now (out .exit) ≡ memoryAfter op (now (out .entry)) used ⌝ }
+// Writes an operation as a record of a sheet of an edition, behind a used length: the new used length, or refusal 1, 5, 4 or 6, which
+// writes no byte.
+pub fn write_record(edition: u64, op: Operation, out: &mut [u8], used: usize) -> Place
+    ensures answer { λ r. ⌜ r ≡ writtenAt edition op (now (out .entry)) used ⌝ }
+    ensures bytes { λ r. ⌜ now (out .exit) ≡ memoryAfter edition op (now (out .entry)) used ⌝ }
 {
     if out.len() < used {
         return Place::Refused(refusals::NO_ROOM);
@@ -121,11 +141,14 @@ pub fn write_record(op: Operation, out: &mut [u8], used: usize) -> Place
     if out.len() - used < RECORD_ROOM {
         return Place::Refused(refusals::NO_ROOM);
     }
+    if !is_edition(edition) {
+        return Place::Refused(refusals::NOT_A_SHEET);
+    }
     let code = op.code;
     if LIMIT_32 < code {
         return Place::Refused(refusals::BAD_NUMBER);
     }
-    match rules::arity_of(code) {
+    match rules::arity_of(edition, code) {
         Arity::Unknown => Place::Refused(refusals::UNKNOWN_CODE),
         Arity::Fields(n) => {
             let fields = op.fields;

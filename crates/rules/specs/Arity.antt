@@ -1,4 +1,4 @@
--- How many fields each operation has, and what it is called, by its code.
+-- How many fields each operation has, what it is called, and the editions of sheets that know it, by its code.
 use Prim.Native.Nat.{ℕ, zero, suc, _+_, _-_, _≤_}
 use native.Mathlib.Omega.{arith}
 use mathlib.Core.Path.{_≡_, refl}
@@ -10,8 +10,8 @@ use Rattle.rules.specs.declared.Arity.{Arity}
 use Rattle.rules.specs.declared.Arity.the-variants.{Fields, Unknown}
 use Rattle.rules.specs.Formula.{Formula, holds, test, choose, Formula._≐_, Formula._≼_, Formula._and_, Formula._then_}
 use Rattle.rules.specs.Formula.{Formula.each}
-use Rattle.rules.specs.FormulaLaws.{passed}
-use Rattle.rules.specs.Step.{Rule, rules, lastCode, ruleOf, unknown}
+use Rattle.rules.specs.FormulaLaws.{passed, choose-no}
+use Rattle.rules.specs.Step.{Rule, rules, lastCode, lastEdition, lastOf, ruleOf, unknown}
 
 pub rows-counted : length rules ≡ suc lastCode
 unfolding rules
@@ -36,6 +36,18 @@ abbrev pub fieldCount : ℕ → ℕ
 unfolding rules
 fieldCount code = getD (column (λ r. r .arity) rules) code 0
 
+-- An edition is the first number of a sheet, 1 or 2. "Sheets whose first number is 2 may use operation 13; in edition 1 reading or
+-- writing it gives 6": the codes that an edition knows. (A single call has no edition, and takes every code.)
+abbrev pub isEdition : ℕ → Formula
+isEdition n = 1 ≼ n and n ≼ lastEdition
+
+abbrev pub knows : ℕ → ℕ → Formula
+knows edition code = isCode code and code ≼ lastOf edition
+
+-- the last edition knows every code
+pub last-knows : (code : ℕ) → holds (isCode code) → holds (knows lastEdition code)
+last-knows code h = (h, rw (choose-no (lastEdition ≼ 1) 12 lastCode (λ l. omega arith)) (h .1))
+
 unfoldable pub nameOf : ℕ → List ℕ
 unfolding rules
 nameOf code = getD (column (λ r. r .name) rules) code []
@@ -54,9 +66,10 @@ pub fields-counted : (o : Operation) → fieldCount (o .code) ≡ ruleOf o .arit
 unfolding rules
 fields-counted o = column-at (λ r. r .arity) rules (o .code) unknown
 
-unfoldable pub arityOf : ℕ → Arity
+-- "6. The operation code is unknown" to an edition, or has so many fields
+unfoldable pub arityOf : ℕ → ℕ → Arity
 unfolding rules
-arityOf code = choose (isCode code) (Fields (fieldCount code)) Unknown
+arityOf edition code = choose (knows edition code) (Fields (fieldCount code)) Unknown
 
 -- The names one behind the other, and where each ends in them, by the codes from 0 on.
 abbrev joined : List (List ℕ) → List ℕ

@@ -23,13 +23,13 @@ pub test-both : (f g : Formula) → test (f and g) ≡ (test f && test g)
 unfolding test
 test-both f g = elim-both (test f) (test g)
 
+pub elim-either : (a b : Bool) → elim a as (λ _. Bool) [ true ↦ true | false ↦ b ] ≡ (a || b)
+elim-either true b = refl
+elim-either false b = refl
+
 pub test-either : (f g : Formula) → test (f or g) ≡ (test f || test g)
 unfolding test
-test-either f g = go (test f) (test g)
-  where
-    go : (a b : Bool) → elim a as (λ _. Bool) [ true ↦ true | false ↦ b ] ≡ (a || b)
-    go true b = refl
-    go false b = refl
+test-either f g = elim-either (test f) (test g)
 
 pub test-implies : (f g : Formula) → test (f then g) ≡ (not (test f) || test g)
 unfolding test

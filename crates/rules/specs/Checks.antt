@@ -10,9 +10,9 @@ use Rattle.session.specs.Names.{ready, held, blockDestroyed, modeRW}
 use Rattle.rules.specs.Formula.{Formula, not, choose, Formula._≐_, Formula._≼_, Formula._and_, Formula._or_, Formula._then_}
 use Rattle.rules.specs.Formula.{Formula.each, Formula.some}
 use Rattle.rules.specs.Reading.{at, made, isKind, isUserEvent, isRunning, isGone, hasSlot, holdsBlock, overflows}
-use Rattle.rules.specs.Reading.{isFiredSticky}
+use Rattle.rules.specs.Reading.{isFiredSticky, hasItsCount}
 use Rattle.rules.specs.Modes.{isMode, stoppedBy}
-use Rattle.rules.specs.EventTypes.{isOfferedType}
+use Rattle.rules.specs.EventTypes.{isOfferedType, isLinkCount}
 
 -- a check: its number, and what the operation must meet
 pub record Check : Type 0 where
@@ -24,7 +24,7 @@ check n f = record { number = n; rule = f }
 
 -- the largest number of a check
 abbrev pub lastRefusal : ℕ
-lastRefusal = 21
+lastRefusal = 24
 
 -- "Each check covers all fields before the next check": the number of the first that fails, 0 if none does.
 unfoldable pub refusal : List Check → ℕ
@@ -64,6 +64,10 @@ module _ (s : Session) where
   abbrev pub eventChecks : ℕ → ℕ → List Check
   eventChecks caller ty = check 7 (isOfferedType ty) ∷ check 8 (isRunning s caller) ∷ room 1 ∷ []
 
+  -- "Operation 13 (caller, count 1..16) makes one, of type 6."
+  abbrev pub countedChecks : ℕ → ℕ → List Check
+  countedChecks caller n = check 7 (isLinkCount n) ∷ check 8 (isRunning s caller) ∷ room 1 ∷ []
+
   -- "4 block (caller, hold 0..1)."
   abbrev pub blockChecks : ℕ → ℕ → List Check
   blockChecks caller hold = check 7 (hold ≼ 1) ∷ check 8 (isRunning s caller) ∷ room 1 ∷ []
@@ -73,7 +77,8 @@ module _ (s : Session) where
   makesLink source = isKind s event source
 
   -- "5 dependence (caller, source, destination, slot, mode 1..4). Source: 0, a block or an event. Destination: a task or an
-  -- event of type 1 to 4." "Checks 14 and 19 concern only calls that satisfy now, not one that makes a link."
+  -- event of type 1 to 4." "Checks 14 and 19 concern only calls that satisfy now, not one that makes a link." "24, one more link from a
+  -- counted event that already has its count, checked after 14."
   abbrev pub dependenceChecks : ℕ → ℕ → ℕ → ℕ → ℕ → List Check
   dependenceChecks caller source d j mode =
       check 7 (isMode mode) ∷ check 8 (isRunning s caller) ∷ check 9 (orNull (made s) source and made s d)
@@ -82,6 +87,7 @@ module _ (s : Session) where
       ∷ check 12 (hasSlot s d j)
       ∷ check 13 (isKind s task d then s SlotMode (at d j) ≐ 0)
       ∷ check 14 (makesLink source or not (isFiredSticky s d))
+      ∷ check 24 (makesLink source then not (hasItsCount s source))
       ∷ check 19 (makesLink source or not (overflows s d j))
       ∷ check 21 (makesLink source then s Links 0 + 1 ≼ mostLinks) ∷ []
 

@@ -5,8 +5,8 @@ use mathlib.Core.Path.{refl}
 use mathlib.Core.List.{List, [], _∷_, _++_}
 use Rattle.session.specs.Table.{Session, put, change, at}
 use Rattle.session.specs.Fresh.{freshSession}
-use Rattle.session.specs.declared.Field.the-variants.{EventState, SlotMode, SlotMark, LinkState}
-use Rattle.session.specs.Names.{eventOpen, fired, ready, held, satisfied}
+use Rattle.session.specs.declared.Field.the-variants.{Dropped, EventState, SlotMode, SlotMark, LinkState}
+use Rattle.session.specs.Names.{eventOpen, fired, destroyedFired, ready, held, satisfied}
 use Rattle.rules.specs.declared.Operation.{Operation}
 use Rattle.rules.specs.Formula.{Formula, holds, test, count, Formula._≐_, Formula._and_}
 use Rattle.rules.specs.FormulaLaws.{passed}
@@ -14,7 +14,8 @@ use Rattle.rules.specs.Checks.{refusal}
 use Rattle.rules.specs.EventTypes.{ofType}
 use Rattle.rules.specs.Effects.{new, newTemplate, newEvent, newTask, makeTask, newBlock, fire, fireOne, satisfySlot, tally}
 use Rattle.rules.specs.Effects.{satisfyEvent, satisfy, claim, newLink, depend, buryDoomed, letGo, release, destroyEvent}
-use Rattle.rules.specs.Effects.{fireFinished, destroyTask, destroyBlock, destroy, drops, deliver, grant, start, end}
+use Rattle.rules.specs.Effects.{fireFinished, destroyTask, destroyBlock, destroy, drops, bring, expire, deliver, grant}
+use Rattle.rules.specs.Effects.{start, end}
 use Rattle.rules.specs.Step.{rules, answer, after, outcome}
 use Rattle.rules.specs.Descendants.{under}
 
@@ -135,8 +136,36 @@ firstClaim =
     (done 1 (2 ∷ 1 ∷ []) 3 ∷ done 2 (2 ∷ 3 ∷ 17 ∷ 0 ∷ 0 ∷ []) 4 ∷ done 5 (2 ∷ 0 ∷ 4 ∷ 0 ∷ 1 ∷ []) 0 ∷ refused 5 (2 ∷ 0 ∷ 4 ∷ 0 ∷ 2 ∷ []) 13 ∷ [])
     (λ s. s SlotMode (at 4 0) ≐ 1)
 
+-- Document 02, E4. A counted event with the count 1: a second link gives 24, a second satisfaction 14; it goes as its link is
+-- delivered, and is gone for every call.
+abbrev pub countedGoes : Edge
+countedGoes =
+    runningMain
+    (done 13 (2 ∷ 1 ∷ []) 3 ∷ done 1 (2 ∷ 1 ∷ []) 4 ∷ done 2 (2 ∷ 4 ∷ 17 ∷ 0 ∷ 0 ∷ []) 5 ∷ done 5 (2 ∷ 3 ∷ 5 ∷ 0 ∷ 1 ∷ []) 1
+    ∷ refused 5 (2 ∷ 3 ∷ 3 ∷ 0 ∷ 1 ∷ []) 24 ∷ done 6 (2 ∷ 3 ∷ 1 ∷ 0 ∷ []) 0 ∷ refused 6 (2 ∷ 3 ∷ 0 ∷ 0 ∷ []) 14 ∷ done 9 (1 ∷ []) 0
+    ∷ refused 6 (2 ∷ 3 ∷ 0 ∷ 0 ∷ []) 11 ∷ refused 5 (2 ∷ 3 ∷ 3 ∷ 0 ∷ 1 ∷ []) 11 ∷ refused 8 (2 ∷ 3 ∷ []) 11 ∷ [])
+    (λ s. s EventState 3 ≐ destroyedFired)
+
+-- With the count 2: fired it stays, a link made then is ready, and one of two delivered is not its count.
+abbrev pub countedStays : Edge
+countedStays =
+    runningMain
+    (done 13 (2 ∷ 2 ∷ []) 3 ∷ done 6 (2 ∷ 3 ∷ 0 ∷ 0 ∷ []) 0 ∷ done 3 (2 ∷ 3 ∷ []) 4 ∷ done 5 (2 ∷ 3 ∷ 3 ∷ 0 ∷ 1 ∷ []) 1
+    ∷ done 5 (2 ∷ 3 ∷ 4 ∷ 0 ∷ 1 ∷ []) 2 ∷ done 9 (2 ∷ []) 0 ∷ [])
+    (λ s. s EventState 3 ≐ fired and s EventState 4 ≐ fired and s LinkState 1 ≐ ready)
+
+-- The other link leads to itself: its delivery is dropped, and counts.
+abbrev pub countedStays-then : Edge
+countedStays-then =
+    record {
+      calls = countedStays .calls ++ (done 9 (1 ∷ []) 0 ∷ []);
+      shows = λ s. s EventState 3 ≐ destroyedFired and s Dropped 0 ≐ 1;
+    }
+
 abbrev pub edges : List Edge
-edges = p1 ∷ p2 ∷ p3 ∷ p4 ∷ p8 ∷ p8-then ∷ p9 ∷ p10 ∷ readyStays ∷ grantWhole ∷ firstClaim ∷ []
+edges =
+    p1 ∷ p2 ∷ p3 ∷ p4 ∷ p8 ∷ p8-then ∷ p9 ∷ p10 ∷ readyStays ∷ grantWhole ∷ firstClaim
+    ∷ countedGoes ∷ countedStays ∷ countedStays-then ∷ []
 
 abbrev pub allMet : List Edge → Formula
 allMet [] = 0 ≐ 0
@@ -145,5 +174,5 @@ allMet (e ∷ es) = isMet e and allMet es
 pub edges-met : holds (allMet edges)
 unfolding plays put change test ofType count under refusal new newTemplate newEvent newTask makeTask newBlock fire fireOne
     satisfySlot tally satisfyEvent satisfy claim newLink depend buryDoomed letGo release destroyEvent fireFinished destroyTask
-    destroyBlock destroy drops deliver grant start end rules freshSession answer after outcome
+    destroyBlock destroy drops bring expire deliver grant start end rules freshSession answer after outcome
 edges-met = passed (allMet edges) refl

@@ -5,11 +5,12 @@ use mathlib.Core.Bool.{Bool, true, false}
 use mathlib.Core.List.{List, [], _∷_}
 use mathlib.Core.Logic.{inl, inr}
 use Rattle.session.specs.Table.{pick}
-use Rattle.session.specs.Names.{latch, output}
-use Rattle.rules.specs.Formula.{Formula, holds, test, not, Formula._≐_, Formula._and_, Formula._or_, Formula._then_}
+use Rattle.session.specs.Names.{latch, output, counted}
+use Rattle.rules.specs.Formula.{Formula, holds, test, not, _iff_, Formula._≐_, Formula._and_, Formula._or_, Formula._then_}
 use Rattle.rules.specs.FormulaLaws.{passed}
 use Rattle.rules.specs.EventTypes.{TypeRow, eventTypes, among, ofType, any, isOffered, isNamed, atFirst, isLeftFired}
 use Rattle.rules.specs.EventTypes.{isEventType, isOfferedType, isUserType, firesAtFirst, goneWhenFired, staysWhenFired}
+use Rattle.rules.specs.EventTypes.{hasTypeSlot}
 
 -- a rule on codes holds at each row that is picked
 abbrev rows : List TypeRow → (TypeRow → Bool) → (ℕ → Formula) → Formula
@@ -32,10 +33,14 @@ of-type : (which : TypeRow → Bool) (f : ℕ → Formula) → test (rows eventT
 unfolding ofType
 of-type which f e = by-rows eventTypes which f (passed (rows eventTypes which f) e)
 
--- what operation 3 makes, and what a task has, are types
+-- what operations 3 and 13 make, and what a task has, are types
 pub offered-known : (ty : ℕ) → holds (isOfferedType ty) → holds (isEventType ty)
 unfolding test ofType
 offered-known = of-type isOffered isEventType refl
+
+pub counted-known : holds (isEventType counted)
+unfolding test ofType
+counted-known = passed (isEventType counted) refl
 
 pub output-known : holds (isEventType output)
 unfolding test ofType
@@ -46,9 +51,28 @@ pub offered-no-output : (ty : ℕ) → holds (isOfferedType ty) → ty ≡ outpu
 unfolding test ofType
 offered-no-output = of-type isOffered (λ ty. not (ty ≐ output)) refl
 
+-- operation 3 makes no counted event
+pub offered-no-counted : (ty : ℕ) → holds (isOfferedType ty) → ty ≡ counted → ⊥
+unfolding test ofType
+offered-no-counted = of-type isOffered (λ ty. not (ty ≐ counted)) refl
+
 pub user-no-output : (ty : ℕ) → holds (isUserType ty) → ty ≡ output → ⊥
 unfolding test ofType
 user-no-output = of-type isNamed (λ ty. not (ty ≐ output)) refl
+
+-- and of the types there are all others are
+pub user-unless-output : (ty : ℕ) → holds (isEventType ty) → (ty ≡ output → ⊥) → holds (isUserType ty)
+unfolding test ofType
+user-unless-output = of-type any (λ ty. not (ty ≐ output) then isUserType ty) refl
+
+-- a user's event has slot 0, and slot 1 if it is a latch
+pub user-slot : (ty : ℕ) → holds (isUserType ty) → holds (hasTypeSlot ty 0)
+unfolding test ofType
+user-slot = of-type isNamed (λ ty. hasTypeSlot ty 0) refl
+
+pub user-second-slot : (ty : ℕ) → holds (isUserType ty) → holds (hasTypeSlot ty 1 iff ty ≐ latch)
+unfolding test ofType
+user-second-slot = of-type isNamed (λ ty. hasTypeSlot ty 1 iff ty ≐ latch) refl
 
 -- a user's event fires at first or is a latch; a latch and an output event do not
 pub user-fires : (ty : ℕ) → holds (isUserType ty) → (ty ≡ latch → ⊥) → holds (firesAtFirst ty)

@@ -5,8 +5,8 @@ use mathlib.Core.Bool.{Bool, true, false}
 use mathlib.Core.List.{List, [], _∷_}
 use lib.Dec.{leb}
 use Rattle.session.specs.Table.{pick}
-use Rattle.session.specs.Names.{once, idempotent, sticky, latch, output}
-use Rattle.rules.specs.Formula.{Formula, Formula._≐_, Formula._and_, Formula._or_, Formula.never}
+use Rattle.session.specs.Names.{once, idempotent, sticky, latch, output, counted, mostCount}
+use Rattle.rules.specs.Formula.{Formula, Formula._≐_, Formula._≼_, Formula._and_, Formula._or_, Formula.never}
 
 -- What a satisfaction does to an open event: it fires it; or is counted; or there is none, as nobody may satisfy it.
 pub data First : Type 0 where
@@ -33,14 +33,16 @@ row c o n f g k = record { code = c; offered = o; named = n; first = f; further 
 
 -- "Event: type 1 once, 2 idempotent, 3 sticky, 4 latch, 5 output". "Slots: types 1 to 3 have slot 0; a latch has 0 (decrement) and 1
 -- (increment)." "Once, latch and output count as gone as soon as fired". "A second satisfaction of idempotent is accepted and does
--- nothing." "A latch counts". 14: "The sticky event has fired." The columns are those of TypeRow.
+-- nothing." "A latch counts". 14: "The sticky event has fired." Document 02, E4: "of type 6. It has slot 0, takes one satisfaction as
+-- sticky does .. It may be source, destination, satisfied or destroyed wherever types 1 to 4 may." The columns are those of TypeRow.
 abbrev pub eventTypes : List TypeRow
 eventTypes =
     row once true true First.fires Further.gone 1
     ∷ row idempotent true true First.fires Further.nothing 1
     ∷ row sticky true true First.fires Further.refused 1
     ∷ row latch true true First.counts Further.gone 2
-    ∷ row output false false First.none Further.gone 0 ∷ []
+    ∷ row output false false First.none Further.gone 0
+    ∷ row counted false true First.fires Further.refused 1 ∷ []
 
 abbrev pub among : List TypeRow → (TypeRow → Bool) → ℕ → Formula
 among [] which ty = never
@@ -80,11 +82,11 @@ isEventType = ofType any
 abbrev pub isOfferedType : ℕ → Formula
 isOfferedType = ofType isOffered
 
--- "event of type 1 to 4"
+-- "event of type 1 to 4", and a counted one
 abbrev pub isUserType : ℕ → Formula
 isUserType = ofType isNamed
 
--- the first satisfaction fires it: "an event of type 1 to 3 keeps its first"
+-- the first satisfaction fires it: "an event of type 1 to 3 keeps its first"; "demand 3's book treats type 6 as it does a sticky"
 abbrev pub firesAtFirst : ℕ → Formula
 firesAtFirst = ofType atFirst
 
@@ -92,13 +94,17 @@ firesAtFirst = ofType atFirst
 abbrev pub goneWhenFired : ℕ → Formula
 goneWhenFired = ofType isGoneFired
 
--- it stays for later links, destroyed or not: "of type 2 or 3"
+-- it stays for later links, destroyed or not: "of type 2 or 3", and type 6, which "stays for later links"
 abbrev pub staysWhenFired : ℕ → Formula
 staysWhenFired = ofType isLeftFired
 
--- 14: "The sticky event has fired."
+-- 14: "The sticky event has fired."; of type 6 "a second call gives 14"
 abbrev pub refusesFurther : ℕ → Formula
 refusesFurther = ofType isRefusing
+
+-- the counts that a counted event may have: "count 1..16"
+abbrev pub isLinkCount : ℕ → Formula
+isLinkCount n = 1 ≼ n and n ≼ mostCount
 
 -- "types 1 to 3 have slot 0; a latch has 0 (decrement) and 1 (increment)"
 abbrev pub hasTypeSlot : ℕ → ℕ → Formula

@@ -37,3 +37,6 @@ start = 115 ∷ 116 ∷ 97 ∷ 114 ∷ 116 ∷ []
 
 abbrev pub end : List ℕ
 end = 101 ∷ 110 ∷ 100 ∷ []
+
+abbrev pub counted : List ℕ
+counted = 99 ∷ 111 ∷ 117 ∷ 110 ∷ 116 ∷ 101 ∷ 100 ∷ []

@@ -1,9 +1,9 @@
-// What the rules say of an event's type, by its code: one function a column of EventTypes.antt. Elsewhere only latches (their tally) and
-// output events (their task) are told from others.
+// What the rules say of an event's type, by its code: one function a column of EventTypes.antt. Elsewhere only latches (their tally),
+// output events (their task) and counted ones (their count) are told from others.
 ghost use mathlib.Core.Path.{_≡_};
 ghost use Rattle.rules.specs.Formula.{test};
 ghost use Rattle.rules.specs.EventTypes.{isEventType, isOfferedType, isUserType, goneWhenFired, refusesFurther};
-ghost use Rattle.rules.specs.EventTypes.{hasTypeSlot};
+ghost use Rattle.rules.specs.EventTypes.{hasTypeSlot, isLinkCount};
 use session::names;
 
 pub fn is_event_type(ty: u64) -> bool
@@ -11,7 +11,8 @@ pub fn is_event_type(ty: u64) -> bool
 {
     (ty == names::ONCE)
         | ((ty == names::IDEMPOTENT)
-            | ((ty == names::STICKY) | ((ty == names::LATCH) | (ty == names::OUTPUT))))
+            | ((ty == names::STICKY)
+                | ((ty == names::LATCH) | ((ty == names::OUTPUT) | (ty == names::COUNTED)))))
 }
 
 // Whether operation 3 makes it.
@@ -27,7 +28,8 @@ pub fn is_user_type(ty: u64) -> bool
     ensures { λ r. ⌜ r ≡ test (isUserType ty) ⌝ }
 {
     (ty == names::ONCE)
-        | ((ty == names::IDEMPOTENT) | ((ty == names::STICKY) | (ty == names::LATCH)))
+        | ((ty == names::IDEMPOTENT)
+            | ((ty == names::STICKY) | ((ty == names::LATCH) | (ty == names::COUNTED))))
 }
 
 // Whether it counts as gone once it has fired.
@@ -41,7 +43,14 @@ pub fn is_gone_when_fired(ty: u64) -> bool
 pub fn refuses_further(ty: u64) -> bool
     ensures { λ r. ⌜ r ≡ test (refusesFurther ty) ⌝ }
 {
-    ty == names::STICKY
+    (ty == names::STICKY) | (ty == names::COUNTED)
+}
+
+// Whether a counted event may be made for so many links.
+pub fn is_link_count(n: u64) -> bool
+    ensures { λ r. ⌜ r ≡ test (isLinkCount n) ⌝ }
+{
+    (1 <= n) & (n <= names::MOST_COUNT)
 }
 
 // Whether it has slot j.
@@ -49,7 +58,8 @@ pub fn has_type_slot(ty: u64, j: u64) -> bool
     ensures { λ r. ⌜ r ≡ test (hasTypeSlot ty j) ⌝ }
 {
     let first = (ty == names::ONCE)
-        | ((ty == names::IDEMPOTENT) | ((ty == names::STICKY) | (ty == names::LATCH)));
+        | ((ty == names::IDEMPOTENT)
+            | ((ty == names::STICKY) | ((ty == names::LATCH) | (ty == names::COUNTED))));
     let second = ty == names::LATCH;
     (j == 0) & first | (j == 1) & second
 }

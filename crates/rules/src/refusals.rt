@@ -5,7 +5,7 @@ pub const NO_ROOM: u64 = 1;
 
 pub const NOT_SOUND: u64 = 2;
 
-// A number is cut short by the sheet's end; is not in its shortest form or too large; the sheet's first one is not 1.
+// A number is cut short by the sheet's end; is not in its shortest form or too large; the sheet's first one is no edition.
 pub const CUT_SHORT: u64 = 3;
 
 pub const BAD_NUMBER: u64 = 4;
@@ -48,3 +48,6 @@ pub const LATCH_RANGE: u64 = 19;
 pub const TOO_MANY_OBJECTS: u64 = 20;
 
 pub const TOO_MANY_LINKS: u64 = 21;
+
+// 22 and 23 are a class report's. A counted event already has its count of links.
+pub const COUNT_REACHED: u64 = 24;

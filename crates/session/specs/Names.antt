@@ -76,7 +76,7 @@ destroyedUnfired = 3
 abbrev pub destroyedFired : ℕ
 destroyedFired = 4
 
--- Event: type 1 once, 2 idempotent, 3 sticky, 4 latch, 5 output.
+-- Event: type 1 once, 2 idempotent, 3 sticky, 4 latch, 5 output; document 02, E4: 6 counted.
 abbrev pub once : ℕ
 once = 1
 
@@ -91,6 +91,9 @@ latch = 4
 
 abbrev pub output : ℕ
 output = 5
+
+abbrev pub counted : ℕ
+counted = 6
 
 -- Block: live, doomed (to be destroyed when the last hold goes), destroyed.
 abbrev pub doomed : ℕ
@@ -138,3 +141,7 @@ evenTally = 32767
 
 abbrev pub topTally : ℕ
 topTally = 65534
+
+-- A counted event is made for so many links at the most.
+abbrev pub mostCount : ℕ
+mostCount = 16

@@ -60,6 +60,8 @@ pub const LATCH: u64 = 4;
 
 pub const OUTPUT: u64 = 5;
 
+pub const COUNTED: u64 = 6;
+
 // States of a block.
 pub const DOOMED: u64 = 2;
 
@@ -92,3 +94,6 @@ pub const HELD: u64 = 2;
 pub const EVEN_TALLY: u64 = 32767;
 
 pub const TOP_TALLY: u64 = 65534;
+
+// The links that a counted event is made for, at the most.
+pub const MOST_COUNT: u64 = 16;

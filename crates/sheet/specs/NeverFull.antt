@@ -20,7 +20,8 @@ use Rattle.rules.specs.Formula.{holds, Formula._≐_, Formula._≼_}
 use Rattle.rules.specs.FormulaLaws.{Case, decide, choose-yes, choose-no, Case.it-does, Case.it-does-not}
 use Rattle.rules.specs.Sound.{sound}
 use Rattle.rules.specs.Step.{step}
-use Rattle.record.specs.RecordReading.{place, codeAt, firstField, countAt, recordChecks, recordAt}
+use Rattle.record.specs.RecordReading.{place, codeAt, firstField, countAt, recordChecks, recordIn}
+use Rattle.record.specs.RecordReading.{editionOf, recordAt}
 use Rattle.record.specs.Refusals.{number-none, answered-number}
 use Rattle.record.specs.Fields.{AllRead, place-none}
 use Rattle.record.specs.RecordCases.{accepted}
@@ -70,11 +71,11 @@ refusal-other n (c ∷ cs) p u e = go (decide (c .rule)) (refusal-other n cs p (
     go (it-does-not f) again = u .0 (sym (choose-no (c .rule) (refusal cs) (c .number) f) ∙ e)
 
 pub record-not-full : (sheet : List ℕ) (at : ℕ) → recordAt sheet at .refused ≡ 1 → ⊥
-unfolding recordAt
+unfolding recordIn
 record-not-full sheet at e =
-    refusal-other 1 (recordChecks sheet at) (lit< tt)
+    refusal-other 1 (recordChecks (editionOf sheet) sheet at) (lit< tt)
     (λ x. omega arith, (λ x. omega arith, (λ x. omega arith, (λ x. omega arith, (λ x. omega arith, tt)))))
-    (sym (answered-number (refusal (recordChecks sheet at)) _ _) ∙ e)
+    (sym (answered-number (refusal (recordChecks (editionOf sheet) sheet at)) _ _) ∙ e)
 
 pub head-not-full : (sheet : List ℕ) → headRefusal sheet ≡ 1 → ⊥
 head-not-full sheet = refusal-other 1 (headChecks sheet) (lit< tt) (λ x. omega arith, (λ x. omega arith, (λ x. omega arith, tt)))
@@ -155,7 +156,7 @@ spare-on sheet at k s l g b is z =
         omega (arith, g .bytes)
     go (it-does-not more) e inside =
         let takes = record-takes sheet at z in
-        let some = fields-some (codeAt sheet at) (accepted sheet at z .known) in
+        let some = fields-some (codeAt sheet at) (accepted sheet at z .known .0) in
         let u = line-used l (k + 1) (step s (recordAt sheet at .operation) .refused)
         (step s (recordAt sheet at .operation) .made) room low (small .0) (small .1) in
         omega (arith, g .bytes)
@@ -177,7 +178,7 @@ run-closable sheet (suc n) at k s l g = ends (decide (length sheet ≼ at)) (run
     reads : at < length sheet → holds (hasRoom l) → holds (sound s) → Case (recordAt sheet at .refused ≐ 0) → Again sheet n
         → Closable (runFrom sheet (suc n) at k s l)
     reads b o i (it-does-not f) again =
-        let m = record-refusals sheet at in
+        let m = record-refusals (editionOf sheet) sheet at in
         rw (run-refused sheet at k s l n b o i f)
         (closable-by s l at (k + 1) (recordAt sheet at .refused) (omega (arith, g .bytes)) (omega (arith, g .small, g .count))
         (omega arith) (record-not-full sheet at))

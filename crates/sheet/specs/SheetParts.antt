@@ -14,7 +14,7 @@ use Rattle.rules.specs.Formula.{holds, choose, Formula._≐_, Formula._≼_}
 use Rattle.rules.specs.FormulaLaws.{Case, decide, choose-yes, choose-no, Case.it-does, Case.it-does-not}
 use Rattle.rules.specs.Sound.{sound, kept}
 use Rattle.rules.specs.Step.{step}
-use Rattle.record.specs.RecordReading.{recordAt}
+use Rattle.record.specs.RecordReading.{editionOf, recordAt}
 use Rattle.record.specs.RecordRoundTrip.{record-forward, record-refusals}
 use Rattle.record.specs.Sheet.{headRefusal, firstRecord}
 use Rattle.laws.specs.StepKeeps.{step-keeps}
@@ -181,7 +181,7 @@ part sheet (suc n) at k s l enough count small = ends (decide (length sheet ≼ 
     reads : at < length sheet → holds (hasRoom l) → holds (sound s) → Case (recordAt sheet at .refused ≐ 0) → Again sheet n
         → Records sheet at k s l (runFrom sheet (suc n) at k s l)
     reads b o i (it-does-not f) again =
-        let m = record-refusals sheet at in
+        let m = record-refusals (editionOf sheet) sheet at in
         rw (run-refused sheet at k s l n b o i f)
         (part-stopped sheet at k s l b count small o (recordAt sheet at .refused) (omega arith) (record-not-full sheet at)
         (print-refused sheet at k s (length sheet - 1) b i f))

@@ -8,6 +8,7 @@ ghost use Rattle.session.specs.Fresh.{freshSession};
 ghost use Rattle.rules.specs.Formula.{holds, test};
 ghost use Rattle.rules.specs.Sound.{sound, kept};
 ghost use Rattle.rules.specs.Step.{step};
+ghost use Rattle.record.specs.RecordReading.{editionOf};
 ghost use Rattle.sheet.specs.Run.{hasRoom, withLine, runAt};
 ghost use Rattle.sheet.specs.Going.{linesOf, lent, Goes, Ends, runOf};
 ghost use Rattle.sheet.specs.WholeSheet.{Ran, startAt};
@@ -128,8 +129,9 @@ fn answer_record(
     }
 }
 
-// Runs the record at a place, after k records. Internal.
+// Runs the record at a place of a sheet of this edition, after k records. Internal.
 fn run_record(
+    edition: u64,
     sheet: &[u8],
     at: usize,
     k: u64,
@@ -140,6 +142,7 @@ fn run_record(
 ) -> Went
     requires { ⌜
         (words ≤ length (now memory)) × (sure ≡ true → holds (kept (read (now memory)))) × (at < length (now sheet)) × (k + 1 < 2 ^ 64)
+        × (edition ≡ editionOf (now sheet))
         ⌝ }
     ensures { λ r. ⌜
         Goes (now (sheet .entry)) at k (now (memory .entry)) (now (memory .exit)) (now (lines .entry)) (now (lines .exit)) used r
@@ -155,7 +158,7 @@ fn run_record(
             refusals::NOT_SOUND,
         );
     }
-    let r = record::read_record(sheet, at);
+    let r = record::read_record(edition, sheet, at);
     let refused = r.refused;
     if refused != 0 {
         return Went::Stopped(put_answer(lines, used, number, refused, 0), refused);
@@ -185,11 +188,12 @@ fn run_records(
         (runOf (now (sheet .entry)) first done (now (memory .entry)) (now (lines .entry)) used)
         ⌝ }
 {
+    let edition = record::edition_of(sheet);
     let mut at = first;
     let mut behind = used;
     let mut k = done;
     while at < sheet.len() {
-        match run_record(sheet, at, k, memory, lines, behind, sure) {
+        match run_record(edition, sheet, at, k, memory, lines, behind, sure) {
             Went::On(next, longer) => {
                 at = next;
                 behind = longer;

@@ -10,10 +10,10 @@ use Rattle.rules.specs.Checks.{refusal}
 use Rattle.rules.specs.EventTypes.{ofType}
 use Rattle.rules.specs.Effects.{new, newTemplate, newEvent, newTask, makeTask, fire, fireOne, satisfySlot, tally, satisfyEvent}
 use Rattle.rules.specs.Effects.{satisfy, claim, newLink, depend, buryDoomed, letGo, destroyEvent, fireFinished, destroyTask}
-use Rattle.rules.specs.Effects.{destroy, drops, deliver, grant, start}
+use Rattle.rules.specs.Effects.{destroy, drops, expire, bring, deliver, grant, start}
 use Rattle.rules.specs.Step.{rules, answer, after}
 use Rattle.rules.specs.Descendants.{under}
-use Rattle.record.specs.RecordReading.{behind, place, five, answered, recordAt}
+use Rattle.record.specs.RecordReading.{behind, place, five, answered, recordIn}
 use Rattle.sheet_counts.specs.declared.Tally.{Tally}
 use Rattle.sheet_counts.specs.Answers.{countsOf}
 use Rattle.sheet_counts.specs.Plain.{plainFrom, plainCounts, counts-plain}
@@ -41,9 +41,9 @@ headAlone = 1 ∷ []
 abbrev pub cutShort : List ℕ
 cutShort = 1 ∷ 10 ∷ 2 ∷ 11 ∷ []
 
--- a first number that is not 1
+-- a first number that is no edition
 abbrev pub otherHead : List ℕ
-otherHead = 2 ∷ 10 ∷ 2 ∷ []
+otherHead = 3 ∷ 10 ∷ 2 ∷ []
 
 -- main runs; event 3, template 4, task 5 and link 1 from 3 to 5; 5 is destroyed, 3 fires, and the delivery is dropped
 abbrev pub oneDropped : List ℕ
@@ -65,15 +65,15 @@ short : (plainCounts mainStarts ≡ counts 2 0 1 0) × (plainCounts notMade ≡ 
     × (plainCounts notGranted ≡ counts 1 1 0 0)
     × (plainCounts [] ≡ counts 1 1 0 0) × (plainCounts headAlone ≡ counts 0 0 0 0) × (plainCounts cutShort ≡ counts 2 1 0 0)
     × (plainCounts otherHead ≡ counts 1 1 0 0)
-unfolding plainCounts plainFrom recordAt answered five place behind refusal test refusalOf valueOf readAt readFirst judged
+unfolding plainCounts plainFrom recordIn answered five place behind refusal test refusalOf valueOf readAt readFirst judged
     shortest lastByte value more answer after rules freshSession new put change grant start
 short = (refl, refl, refl, refl, refl, refl, refl)
 
 dropped : plainCounts oneDropped ≡ counts 9 0 1 1
-unfolding plainCounts plainFrom recordAt answered five place behind refusal test ofType count under refusalOf valueOf readAt
+unfolding plainCounts plainFrom recordIn answered five place behind refusal test ofType count under refusalOf valueOf readAt
     readFirst judged shortest lastByte value more answer after rules freshSession new put change grant start newTemplate newEvent
     newTask makeTask fire fireOne satisfySlot tally satisfyEvent satisfy claim newLink depend buryDoomed letGo destroyEvent
-    fireFinished destroyTask destroy drops deliver
+    fireFinished destroyTask destroy drops expire bring deliver
 dropped = refl
 
 pub edges-hold : Edges

@@ -8,6 +8,7 @@ ghost use Rattle.session.specs.Fresh.{freshSession};
 ghost use Rattle.rules.specs.Formula.{holds, Formula._≐_};
 ghost use Rattle.rules.specs.Sound.{sound, kept};
 ghost use Rattle.rules.specs.Step.{step};
+ghost use Rattle.record.specs.RecordReading.{editionOf};
 ghost use Rattle.sheet.specs.SheetPrinted.{printSheet};
 ghost use Rattle.sheet_counts.specs.Answers.{noCounts, countsOf};
 ghost use Rattle.sheet_counts.specs.HowMany.{one};
@@ -82,12 +83,14 @@ fn count_operation(memory: &mut [u64], op: Operation) -> Told
     }
 }
 
-// Runs the record at a place on a kept session. Internal.
-fn count_record(sheet: &[u8], at: usize, memory: &mut [u64]) -> Went
-    requires { ⌜ (words ≤ length (now memory)) × holds (kept (read (now memory))) × (at < length (now sheet)) ⌝ }
+// Runs the record at a place of a sheet of this edition on a kept session. Internal.
+fn count_record(edition: u64, sheet: &[u8], at: usize, memory: &mut [u64]) -> Went
+    requires { ⌜
+        (words ≤ length (now memory)) × holds (kept (read (now memory))) × (at < length (now sheet)) × (edition ≡ editionOf (now sheet))
+        ⌝ }
     ensures { λ r. ⌜ Goes (now (sheet .entry)) at (now (memory .entry)) (now (memory .exit)) r ⌝ }
 {
-    let r = record::read_record(sheet, at);
+    let r = record::read_record(edition, sheet, at);
     let refused = r.refused;
     if refused != 0 {
         return Went::Stopped;
@@ -115,12 +118,13 @@ fn count_records(sheet: &[u8], first: usize, memory: &mut [u64]) -> Tally
     ensures counts { λ r. ⌜ r ≡ countsFrom (now (sheet .entry)) first (was memory) ⌝ }
     ensures session { λ r. ⌜ Becomes memory (leftFrom (now (sheet .entry)) first (was memory)) ⌝ }
 {
+    let edition = record::edition_of(sheet);
     let mut at = first;
     let mut records: u64 = 0;
     let mut refused: u64 = 0;
     let mut starts: u64 = 0;
     while at < sheet.len() {
-        match count_record(sheet, at, memory) {
+        match count_record(edition, sheet, at, memory) {
             Went::On(next, answer) => {
                 at = next;
                 records += 1;

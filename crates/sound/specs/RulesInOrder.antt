@@ -15,7 +15,7 @@ use Rattle.rules.specs.Formula.{Formula, holds, test, Formula._and_, Formula._o
 use Rattle.rules.specs.Reading.{at}
 use Rattle.rules.specs.Modes.{isMode}
 use Rattle.rules.specs.Sound.{isPayload, sound, counts, objects, roots, creators, outputs, slots, slot, unclaimed, claimed, links}
-use Rattle.rules.specs.Sound.{oneLink, states, blocks, compatible, latches, dropped, unused}
+use Rattle.rules.specs.Sound.{oneLink, states, blocks, compatible, latches, countedEvents, dropped, unused}
 use Rattle.rules.specs.FormulaLaws.{test-same}
 use Rattle.laws.specs.SlotPlaces.{place-split, place-low, place-owner}
 use Rattle.laws.specs.Parts.{taskParts-of}
@@ -52,7 +52,7 @@ module _ (s : Session) where
   linkedUp = oneLink s and slots s
 
   abbrev pub uses : Formula
-  uses = states s and blocks s and compatible s and latches s and dropped s
+  uses = states s and blocks s and compatible s and latches s and countedEvents s and dropped s
 
   -- what is left to look at
   abbrev pub fromSlots : Formula
@@ -79,7 +79,7 @@ module _ (s : Session) where
       from : Rules s → holds grouped
       from r =
           r .counts & (r .objects & r .roots & r .creators & r .unused) & r .outputs & r .links & (r .oneLink & r .slots)
-          & r .states & r .blocks & r .compatible & r .latches & r .dropped
+          & r .states & r .blocks & r .compatible & r .latches & r .countedEvents & r .dropped
 
   -- what the rules about objects by themselves say of creators
   pub parts-fall : s Objects 0 ≤ mostObjects → holds parts → Falls s

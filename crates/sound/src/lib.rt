@@ -16,6 +16,7 @@ use session::Field;
 use session::names;
 
 mod blocks;
+mod counted;
 mod holders;
 mod links;
 mod objects;
@@ -54,7 +55,8 @@ fn are_uses(s: &[u64], n: u64, m: u64) -> bool
 {
     let row = blocks::held_marks(s, n);
     let delivered = links::count_delivered(s, m);
-    let ends = objects::are_latches(s, n) & (session::get(s, Field::Dropped, 0) <= delivered);
+    let drops = session::get(s, Field::Dropped, 0) <= delivered;
+    let ends = objects::are_latches(s, n) & (counted::are_counted(s, n, m) & drops);
     tasks::are_states(s, n)
         & (blocks::are_blocks(s, &row, n) & (holders::are_compatible(s, n) & ends))
 }

@@ -12,6 +12,7 @@ use reading::is_made;
 use reading::of_object;
 use reading::of_slot;
 use rules::event_types::is_event_type;
+use rules::event_types::is_link_count;
 use session::Field;
 use session::names;
 
@@ -60,12 +61,15 @@ pub fn event_part(s: &[u64], h: u64) -> bool
     let kind = of_object(s, Field::EventType, h);
     let payload = of_object(s, Field::EventPayload, h);
     let tally = of_object(s, Field::EventTally, h);
+    let links = of_object(s, Field::EventCount, h);
     let is = of_object(s, Field::Kind, h) == names::EVENT;
     let fired = (state == names::FIRED) | ((state == names::DESTROYED_FIRED) | (payload == 0));
-    let counted = (tally <= names::TOP_TALLY) & ((kind == names::LATCH) | (tally == 0));
-    let typed = is_event_type(kind) & (is_payload(s, payload) & (fired & counted));
+    let counts = kind == names::COUNTED;
+    let counted = counts & is_link_count(links) | !counts & (links == 0);
+    let tallied = (tally <= names::TOP_TALLY) & (((kind == names::LATCH) | (tally == 0)) & counted);
+    let typed = is_event_type(kind) & (is_payload(s, payload) & (fired & tallied));
     is & ((1 <= state) & ((state <= names::DESTROYED_FIRED) & typed))
-        | !is & ((state == 0) & ((kind == 0) & ((payload == 0) & (tally == 0))))
+        | !is & ((state == 0) & ((kind == 0) & ((payload == 0) & ((tally == 0) & (links == 0)))))
 }
 
 pub fn block_part(s: &[u64], h: u64) -> bool

@@ -18,8 +18,9 @@ use reading::of_slot;
 use session::Field;
 use session::names;
 
-// A link number, which the row of 8,208 keeps in two bytes: eight would take half of a small thread's stack.
-fn wide(l: u16) -> u64
+// A number that a row keeps in two bytes: of link numbers there are 8,208, and eight bytes each would take half of a small thread's
+// stack.
+pub fn wide(l: u16) -> u64
     ensures { λ r. ⌜ r ≡ l ⌝ }
 {
     l as u64

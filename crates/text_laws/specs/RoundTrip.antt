@@ -1,4 +1,4 @@
--- The text of a sheet, read as text, gives the sheet's bytes back.
+-- The text of a sheet, of any edition, read as text, gives the sheet's bytes back.
 use Prim.Native.Nat.{ℕ, zero, suc, _+_, _≤_, _<_}
 use mathlib.Core.List.{List, [], _∷_, _++_, append-assoc, append-nil}
 use mathlib.Core.Path.{_≡_, refl, ap, sym, subst, _∙_}
@@ -10,23 +10,23 @@ use Rattle.rules.specs.Formula.{holds, test, not, Formula.each, Formula._≐_, 
 use Rattle.rules.specs.FormulaLaws.{Case, decide, passed, choose-yes, choose-no, Case.it-does, Case.it-does-not}
 use Rattle.rules.specs.Step.{arg, lastCode}
 use Rattle.record.specs.declared.Place.the-variants.{Behind, Refused}
-use Rattle.rules.specs.Arity.{fieldCount, nameOf}
-use Rattle.record.specs.RecordReading.{placed, recordAt}
+use Rattle.rules.specs.Arity.{isEdition, fieldCount, nameOf}
+use Rattle.record.specs.RecordReading.{placed, editionOf, recordAt}
 use Rattle.record.specs.Writing.{fieldBytes, recordBytes, isRecordable, within}
 use Rattle.record.specs.RecordRoundTrip.{record-forward}
 use Rattle.record.specs.Sheet.{Contents, stopped, recordsFrom, recordsBytes, contents, headAt, headRefusal, firstRecord}
 use Rattle.record.specs.Sheet.{sheetOf as sheetOfOperations}
 use Rattle.record.specs.SheetLaws.{AllRecordable, sheet-again, AllRecordable.none, AllRecordable.one}
-use Rattle.record.specs.SheetLaws.{followed-on, followed-stop, records-end, records-next}
-use Rattle.text.specs.Text.{kindOf, longer, afterWord, after, isBad, isWord, ended, numbers, badLine, encodeAll, sheetOf}
+use Rattle.record.specs.SheetLaws.{followed-on, followed-stop, records-end, records-next, head-none}
+use Rattle.text.specs.Text.{ended, numbers, badLine, encodeAll, sheetOf}
 use Rattle.text.specs.TextLaws.{encodeAll-none, encodeAll-one, encodeAll-append}
 use Rattle.text.specs.TextPrinted.{most, printedOf}
 use Rattle.text.specs.PrintedLaws.{printed-sheet}
 use Rattle.text.specs.declared.Mode.the-variants.{Between, Word, Comment}
-use Rattle.listing.specs.Listing.{one as firstLine, fieldText, fieldsText, line, lines, recordsText, textOf}
+use Rattle.listing.specs.Listing.{firstLine, fieldText, fieldsText, line, lines, recordsText, textOf}
 use Rattle.listing.specs.ListingLaws.{text-behind}
 use Rattle.text_laws.specs.Reads.{Leads, leads-numbers, leads-good, leads-then, leads-decimal, leads-space, leads-mark}
-use Rattle.text_laws.specs.Reads.{leads-end, leads-comment, Leads.stay, Leads.byte}
+use Rattle.text_laws.specs.Reads.{leads-newline, leads-end, leads-comment, Leads.stay}
 
 -- The last number of a record, and those before it: a number is known where the next byte behind it is read.
 unfoldable pub final : ℕ → ℕ → (ℕ → ℕ) → ℕ
@@ -70,11 +70,12 @@ one-line code l =
 leads-name : (code : ℕ) → code ≤ lastCode → Leads Comment (nameOf code) [] Comment
 leads-name code h = leads-comment (nameOf code) (one-line code h)
 
-pub leads-line : (op : Operation) → holds (isRecordable op) → Leads Between (line op) (numbersOf op) Between
+pub leads-line : (edition : ℕ) (op : Operation) → holds (isRecordable edition op)
+    → Leads Between (line op) (numbersOf op) Between
 unfolding line numbersOf
-leads-line op h =
+leads-line edition op h =
     let n = fieldCount (op .code) in
-    let code = h .0 .1 in
+    let code = h .0 .0 .1 in
     let last = final (op .code) n (arg op) in
     let read = leads-then (leads-decimal (op .code) (omega arith)) (leads-fields (op .code) n (arg op) (h .1)) in
     let marked = leads-then (leads-then (leads-then read (leads-mark last)) (leads-name (op .code) code)) leads-end in
@@ -85,10 +86,10 @@ unfoldable pub allNumbers : List Operation → List ℕ
 allNumbers [] = []
 allNumbers (op ∷ ops) = numbersOf op ++ allNumbers ops
 
-leads-lines : {ops : List Operation} → AllRecordable ops → Leads Between (lines ops) (allNumbers ops) Between
+leads-lines : {edition : ℕ} {ops : List Operation} → AllRecordable edition ops → Leads Between (lines ops) (allNumbers ops) Between
 unfolding lines allNumbers
 leads-lines none = stay
-leads-lines (one {op} r all) = leads-then (leads-line op r) (leads-lines all)
+leads-lines {edition} (one {op} r all) = leads-then (leads-line edition op r) (leads-lines all)
 
 all-bytes : (ops : List Operation) → encodeAll (allNumbers ops) ≡ recordsBytes ops
 unfolding allNumbers recordsBytes
@@ -96,7 +97,7 @@ all-bytes [] = encodeAll-none
 all-bytes (op ∷ ops) = encodeAll-append (numbersOf op) (allNumbers ops) ∙ rw (numbers-bytes op, all-bytes ops)
 
 -- What reads as records can be written as records.
-records-recordable : (sheet : List ℕ) (steps at : ℕ) → AllRecordable (recordsFrom sheet steps at .operations)
+records-recordable : (sheet : List ℕ) (steps at : ℕ) → AllRecordable (editionOf sheet) (recordsFrom sheet steps at .operations)
 unfolding recordsFrom
 records-recordable sheet zero at = none
 records-recordable sheet (suc steps) at =
@@ -105,8 +106,8 @@ records-recordable sheet (suc steps) at =
   where
     go : Case (length sheet ≼ at)
         → Case (recordAt sheet at .refused ≐ 0)
-        → AllRecordable (recordsFrom sheet steps (recordAt sheet at .next) .operations)
-        → AllRecordable (recordsFrom sheet (suc steps) at .operations)
+        → AllRecordable (editionOf sheet) (recordsFrom sheet steps (recordAt sheet at .next) .operations)
+        → AllRecordable (editionOf sheet) (recordsFrom sheet (suc steps) at .operations)
     go (it-does h) c all = rw (records-end sheet (suc steps) at h) none
     go (it-does-not h) (it-does z) all =
         let next = records-next sheet steps at (omega (arith, h)) in
@@ -116,7 +117,7 @@ records-recordable sheet (suc steps) at =
         let next = records-next sheet steps at (omega (arith, h)) in
         rw (next, followed-stop (recordAt sheet at) (recordsFrom sheet steps (recordAt sheet at .next)) n) none
 
--- A sheet that meets none of the refusals 3 to 6: its text is its first number and a line for each record, ..
+-- A sheet that meets none of the refusals 3 to 6: its text is its edition and a line for each record, ..
 lines-alone : (k : ℕ) (c : Contents) → c .refused ≡ 0 → recordsText k c ≡ lines (c .operations)
 unfolding recordsText
 lines-alone k c e =
@@ -134,47 +135,51 @@ contents-stopped : (sheet : List ℕ) → (headRefusal sheet ≡ 0 → ⊥) → 
 unfolding contents
 contents-stopped sheet n = choose-no (headRefusal sheet ≐ 0) _ (stopped (headRefusal sheet)) n
 
-contents-recordable : (sheet : List ℕ) → AllRecordable (contents sheet .operations)
+contents-recordable : (sheet : List ℕ) → AllRecordable (editionOf sheet) (contents sheet .operations)
 contents-recordable sheet = go (decide (headRefusal sheet ≐ 0))
   where
-    go : Case (headRefusal sheet ≐ 0) → AllRecordable (contents sheet .operations)
+    go : Case (headRefusal sheet ≐ 0) → AllRecordable (editionOf sheet) (contents sheet .operations)
     go (it-does z) = rw (contents-read sheet z) (records-recordable sheet (length sheet) (firstRecord sheet))
     go (it-does-not n) = rw (contents-stopped sheet n) none
 
-text-good : (sheet : List ℕ) → contents sheet .refused ≡ 0 → textOf sheet ≡ firstLine ++ lines (contents sheet .operations)
-text-good sheet e = go (decide (headRefusal sheet ≐ 0))
+head-met : (sheet : List ℕ) → contents sheet .refused ≡ 0 → headRefusal sheet ≡ 0
+head-met sheet e = go (decide (headRefusal sheet ≐ 0))
   where
-    go : Case (headRefusal sheet ≐ 0) → textOf sheet ≡ firstLine ++ lines (contents sheet .operations)
-    go (it-does z) =
-        let read = contents-read sheet z in
-        text-behind sheet (firstRecord sheet) (head-good sheet z)
-        ∙ ap (λ (t : List ℕ). firstLine ++ t)
-        (lines-alone 1 (recordsFrom sheet (length sheet) (firstRecord sheet))
-        (ap (λ (c : Contents). c .refused) (sym read) ∙ e))
-        ∙ ap (λ (c : Contents). firstLine ++ lines (c .operations)) (sym read)
+    go : Case (headRefusal sheet ≐ 0) → headRefusal sheet ≡ 0
+    go (it-does z) = z
     go (it-does-not n) = absurd (n (ap (λ (c : Contents). c .refused) (sym (contents-stopped sheet n)) ∙ e))
+
+text-good : (sheet : List ℕ) → contents sheet .refused ≡ 0
+    → textOf sheet ≡ firstLine (editionOf sheet) ++ lines (contents sheet .operations)
+text-good sheet e =
+    let z = head-met sheet e in
+    let read = contents-read sheet z in
+    text-behind sheet (firstRecord sheet) (head-good sheet z)
+    ∙ ap (λ (t : List ℕ). firstLine (editionOf sheet) ++ t)
+    (lines-alone 1 (recordsFrom sheet (length sheet) (firstRecord sheet)) (ap (λ (c : Contents). c .refused) (sym read) ∙ e))
+    ∙ ap (λ (c : Contents). firstLine (editionOf sheet) ++ lines (c .operations)) (sym read)
 
 -- .. and read as text it has no bad line and gives the sheet's bytes back.
 pub record Again (sheet : List ℕ) : Type 0 where
   pub good : badLine (textOf sheet) ≡ 0
   pub same : sheetOf (textOf sheet) ≡ sheet
 
-leads-one : Leads Between firstLine (1 ∷ []) Between
-unfolding after afterWord longer kindOf test isBad ended isWord
-leads-one = byte 49 refl (byte 10 refl stay)
+leads-first : (edition : ℕ) → holds (isEdition edition) → Leads Between (firstLine edition) (edition ∷ []) Between
+leads-first edition h = leads-then (leads-decimal edition (omega (arith, h .1))) (leads-newline edition)
 
 pub text-again : (sheet : List ℕ) → AreBytes sheet → contents sheet .refused ≡ 0 → Again sheet
 unfolding badLine sheetOf numbers ended sheetOfOperations encodeAll
 text-again sheet are e =
     let ops = contents sheet .operations in
+    let edition = editionOf sheet in
     let text = text-good sheet e in
-    let read : Leads Between (firstLine ++ lines ops) (1 ∷ allNumbers ops) Between =
-    leads-then leads-one (leads-lines (contents-recordable sheet)) in
+    let read : Leads Between (firstLine edition ++ lines ops) (edition ∷ allNumbers ops) Between =
+    leads-then (leads-first edition (head-none sheet (head-met sheet e) .1)) (leads-lines (contents-recordable sheet)) in
     record {
       good = ap badLine text ∙ leads-good 1 read;
       same = ap sheetOf text
-          ∙ ap encodeAll (leads-numbers read ∙ append-nil (1 ∷ allNumbers ops))
-          ∙ ap (λ (bs : List ℕ). encode 1 ++ bs) (all-bytes ops)
+          ∙ ap encodeAll (leads-numbers read ∙ append-nil (edition ∷ allNumbers ops))
+          ∙ ap (λ (bs : List ℕ). encode edition ++ bs) (all-bytes ops)
           ∙ sheet-again sheet are e;
     }
 

@@ -3,7 +3,7 @@
 use crate::layout::{Field, SLOTS, WORDS};
 use second::random::Random;
 use second::steer::random_list;
-use second::Session;
+use second::{Edition, Session};
 
 /// A word of something that there is: of one that stands past the counts there is only to say that it is zero.
 fn used_word(random: &mut Random, session: &Session) -> usize {
@@ -40,9 +40,13 @@ fn draw_word(random: &mut Random, session: &Session, words: &[u64]) -> usize {
     word
 }
 
-/// Another number: a small one, a neighbour, a handle, one that the field has elsewhere, or a huge one.
+/// Another number: a small one, a neighbour, a handle, one that the field has elsewhere, or a huge one; of a count
+/// mostly one near what it is held against.
 fn draw_value(random: &mut Random, session: &Session, words: &[u64], word: usize) -> u64 {
-    let (field, was) = (Field::of(word).0, words[word]);
+    let ((field, place), was) = (Field::of(word), words[word]);
+    if field == Field::EventCount && random.percent(60) {
+        return draw_count(random, session, place as u64);
+    }
     match random.below(12) {
         0..=3 => random.below(7),
         4 | 5 => random.among(&[was.wrapping_add(1), was.wrapping_sub(1)]),
@@ -51,6 +55,16 @@ fn draw_value(random: &mut Random, session: &Session, words: &[u64], word: usize
         9 => random.among(&[16, 17, 18, 512, 513, 2_048, 2_049, 8_207, 8_208, 32_766, 32_767, 32_768, 65_534, 65_535]),
         10 => random.among(&[1 << 32, (1 << 32) + was, 1 << 63, (1 << 60) + 2, u64::MAX, u64::MAX - 1]),
         _ => random.draw(),
+    }
+}
+
+/// A count: at an end of its range, as many as the links from the event or those of them that were delivered, or next
+/// to that.
+fn draw_count(random: &mut Random, session: &Session, event: u64) -> u64 {
+    match random.below(3) {
+        0 => random.among(&[0, 1, 15, 16, 17]),
+        1 => session.links_from(event).wrapping_add(random.among(&[u64::MAX, 0, 1])),
+        _ => session.delivered_from(event).wrapping_add(random.among(&[u64::MAX, 0, 1])),
     }
 }
 
@@ -63,9 +77,9 @@ pub fn damage(random: &mut Random, session: &Session, words: &mut [u64], count: 
     changed
 }
 
-/// The session after so many calls of a list.
-pub fn reached(seed: u64, calls: u64) -> Session {
-    let mut list = random_list(seed, calls);
+/// The session after so many calls of a list of that edition.
+pub fn reached(edition: Edition, seed: u64, calls: u64) -> Session {
+    let mut list = random_list(seed, calls).in_edition(edition);
     for _ in 0..calls {
         list.next_call();
     }

@@ -5,7 +5,7 @@ use crate::pair::{Pair, Through};
 use crate::words::from_words;
 use second::random::Random;
 use second::steer::{Goal, Reach, Steer};
-use second::{Answer, Operation, Session};
+use second::{Answer, Edition, Operation, Session};
 
 /// What came of the words judged.
 #[derive(Clone, Copy, Default, Debug)]
@@ -35,6 +35,11 @@ impl Judge {
         Judge { found: Found::default(), random: Random::part(seed, 2), steer, memory: Memory::new(vec![]) }
     }
 
+    /// The same with calls of that edition; they are of edition 1 if nothing is said.
+    pub fn in_edition(self, edition: Edition) -> Judge {
+        Judge { steer: self.steer.in_edition(edition), ..self }
+    }
+
     /// Both judge the words alike. What is not sound both refuse with 2 and leave as it is; on what is sound calls
     /// follow.
     #[track_caller]
@@ -50,7 +55,7 @@ impl Judge {
     }
 
     fn refuse(&mut self, words: &[u64]) {
-        let operation = Operation { code: self.random.below(14), fields: [2, self.random.below(8), 1, 0, 1] };
+        let operation = Operation { code: self.random.below(15), fields: [2, self.random.below(8), 1, 0, 1] };
         let answer = self.memory.apply(&operation);
         assert_eq!(answer, Answer { refused: 2, made: 0 }, "{operation:?}: {}", shown(words));
         assert!(self.memory.words() == words, "changed by a refusal: {}", shown(words));

@@ -6,7 +6,7 @@ use std::sync::OnceLock;
 const PAGE: &str = include_str!("../../../docs/LAYOUT.md");
 
 /// The words that a session needs.
-pub const WORDS: usize = 40_518;
+pub const WORDS: usize = 41_031;
 
 /// Pre-slot j of task t is at place t * 16 + j.
 pub const SLOTS: usize = 16;
@@ -29,7 +29,7 @@ macro_rules! fields {
 fields! {
     Objects Links Dropped Kind TemplateState TemplateCount TaskState TaskCreator TaskSlots TaskFinish TaskOutput
     EventState EventType EventPayload EventTally BlockState BlockCreator BlockHeld SlotMode SlotMark SlotPayload
-    LinkSource LinkTarget LinkSlot LinkState
+    LinkSource LinkTarget LinkSlot LinkState EventCount
 }
 
 /// A row of the page's table.

@@ -7,7 +7,7 @@ use crate::words::{from_words, write_words};
 use second::lines;
 use second::lines::answer_line;
 use second::record::{read_first, read_record};
-use second::{Answer, Session};
+use second::{Answer, Edition, Session};
 
 /// "the line or record memory has under 32 bytes free"
 const ROOM: usize = 32;
@@ -44,13 +44,14 @@ pub fn run(words: &mut [u64], sheet: &[u8], bytes: &mut [u8], used: usize) -> En
         return lines.end(0, 0, 1);
     }
     let Some(mut session) = from_words(words).filter(Session::is_sound) else { return lines.end(0, 0, 2) };
-    let (mut place, mut number, mut ending) = match read_first(sheet) {
-        Ok(length) => (length, 0, 0),
+    let (edition, mut place) = match read_first(sheet) {
+        Ok(first) => first,
         Err(refused) => return lines.end(0, 0, refused),
     };
+    let (mut number, mut ending) = (0, 0);
     while place < sheet.len() && ending == 0 {
         number += 1;
-        match step(&mut session, &sheet[place..], &lines) {
+        match step(&mut session, &sheet[place..], edition, &lines) {
             Ok((answer, length)) => {
                 lines.put(&answer_line(number, answer));
                 place += length;
@@ -63,14 +64,14 @@ pub fn run(words: &mut [u64], sheet: &[u8], bytes: &mut [u8], used: usize) -> En
 }
 
 /// Run the record that begins here: its answer and length, or the refusal that ends the sheet.
-fn step(session: &mut Session, rest: &[u8], lines: &Lines) -> Result<(Answer, usize), u32> {
+fn step(session: &mut Session, rest: &[u8], edition: Edition, lines: &Lines) -> Result<(Answer, usize), u32> {
     if !lines.has_room() {
         return Err(1);
     }
     if !session.is_sound() {
         return Err(2);
     }
-    let (operation, length) = read_record(rest)?;
+    let (operation, length) = read_record(rest, edition)?;
     Ok((session.apply(&operation), length))
 }
 

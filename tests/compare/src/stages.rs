@@ -33,7 +33,7 @@ impl Grown {
     }
 
     /// An accepted call; what it made.
-    fn call(&mut self, numbers: &[u64]) -> u64 {
+    pub fn call(&mut self, numbers: &[u64]) -> u64 {
         let operation = Operation::new(numbers[0], &numbers[1..]);
         let answer = self.session.apply(&operation);
         assert_eq!(answer.refused, 0, "{numbers:?}");
@@ -41,7 +41,8 @@ impl Grown {
         answer.made
     }
 
-    fn caller(&self) -> u64 {
+    /// A running task.
+    pub fn caller(&self) -> u64 {
         let running = |(handle, task): (u64, &Task)| (task.state == TaskState::Running).then_some(handle);
         self.session.tasks().find_map(running).expect("a running task")
     }

@@ -8,7 +8,9 @@ use compare::words::{from_words, to_words, write_words};
 use compare::Memory;
 use second::random::Random;
 use second::steer::{Goal, Reach, Steer};
-use second::{write_record, Answer, Operation, Session};
+use second::{write_record, Answer, Edition, Operation, Session};
+
+const EDITIONS: [Edition; 2] = [Edition::First, Edition::Second];
 
 /// A session's words, or what is left of them.
 fn draw_memory(random: &mut Random, session: &Session) -> Vec<u64> {
@@ -28,19 +30,22 @@ fn draw_memory(random: &mut Random, session: &Session) -> Vec<u64> {
     words
 }
 
-/// Records that suit the session, sometimes cut, with a byte turned or a number longer than it need be; and line memory of any length and used length.
+/// Records that suit the session, sometimes cut, with a byte turned, a number longer than it need be or the other
+/// edition's first number; and line memory of any length and used length.
 fn draw_sheet(random: &mut Random, session: &Session) -> (Vec<u8>, Vec<u8>, usize) {
-    let mut steer = Steer::new(Random::new(random.draw()), Reach::Records, Goal::Nothing, 1 << 40);
+    let edition = random.among(&EDITIONS);
+    let mut steer = Steer::new(Random::new(random.draw()), Reach::Records, Goal::Nothing, 1 << 40).in_edition(edition);
     steer.session.clone_from(session);
-    let mut sheet = vec![1];
+    let mut sheet = vec![edition.number() as u8];
     for _ in 0..random.below(12) {
-        sheet.extend(write_record(&steer.next_call().0).expect("a record"));
+        sheet.extend(write_record(&steer.next_call().0, edition.number()).expect("a record"));
     }
     let place = random.below(sheet.len() as u64) as usize;
     match random.below(8) {
         0 => sheet.truncate(place),
         1 => sheet[place] = random.draw() as u8,
         2 => drop(sheet.splice(place..=place, [sheet[place] | 128, 0])),
+        3 => sheet[0] = 3 - sheet[0],
         _ => (),
     }
     let length = random.among(&[0, 31, 32, 33, 100, 600, 600, 600, 600, 600]);
@@ -104,19 +109,19 @@ fn check_last_line(words: &[u64], lines: &[u8], used: usize) {
     }
 }
 
-#[test]
-fn on_any_memory() {
+/// From sessions of lists of that edition.
+fn check_reached(edition: Edition) {
     let mut endings = [0; 7];
     for seed in 0..160 {
-        let session = reached(seed, 5 + 3 * seed);
-        let mut random = Random::part(seed, 11);
+        let session = reached(edition, seed, 5 + 3 * seed);
+        let mut random = Random::part(seed, 10 + edition.number());
         for _ in 0..40 {
             let words = draw_memory(&mut random, &session);
             let sound = from_words(&words).filter(Session::is_sound);
             assert_eq!(Memory::new(words.clone()).sound(), sound.is_some());
             check_fresh(&words);
             let fields = [2, random.below(8), 1 + random.below(4), random.below(2), 1 + random.below(4)];
-            check_apply(&words, &sound, &Operation { code: random.below(14), fields });
+            check_apply(&words, &sound, &Operation { code: random.below(15), fields });
             let (sheet, lines, used) = draw_sheet(&mut random, &session);
             check_last_line(&words, &lines, used);
             endings[check_run(&words, &sheet, &lines, used) as usize] += 1;
@@ -124,4 +129,14 @@ fn on_any_memory() {
     }
     println!("sheets by their ending, 0 to 6: {endings:?}");
     assert!(endings.iter().all(|count| *count > 5), "{endings:?}");
+}
+
+#[test]
+fn on_any_memory() {
+    check_reached(Edition::First);
+}
+
+#[test]
+fn on_any_memory_of_edition_2() {
+    check_reached(Edition::Second);
 }

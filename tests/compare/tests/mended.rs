@@ -1,10 +1,10 @@
 //! Sessions changed in several places that fit together: sound ones that no list comes to, and near misses.
 
+use compare::damage::reached;
 use compare::judge::Judge;
 use compare::pair::{Pair, Through};
 use compare::words::to_words;
 use second::random::Random;
-use second::steer::random_list;
 use second::*;
 
 const TASK_STATES: [TaskState; 6] = [
@@ -23,7 +23,8 @@ const EVENT_STATES: [EventState; 4] = [
 ];
 const BLOCK_STATES: [BlockState; 3] = [BlockState::Live, BlockState::Doomed, BlockState::Destroyed];
 const MODES: [Option<Mode>; 5] = [None, Some(Mode::Ro), Some(Mode::Rw), Some(Mode::Ew), Some(Mode::Const)];
-const KINDS: [EventType; 4] = [EventType::Once, EventType::Idempotent, EventType::Sticky, EventType::Latch];
+const KINDS: [EventType; 5] =
+    [EventType::Once, EventType::Idempotent, EventType::Sticky, EventType::Latch, EventType::Counted];
 
 fn draw_block(random: &mut Random, session: &Session) -> u64 {
     let blocks: Vec<u64> = (0..=session.object_count()).filter(|h| *h == 0 || session.block(*h).is_some()).collect();
@@ -46,19 +47,22 @@ fn change(random: &mut Random, session: &mut Session) {
     match session.object_mut(handle) {
         Some(Object::Template(template)) => template.count = random.below(18),
         Some(Object::Task(task)) => change_task(random, task, handle, payload),
-        Some(Object::Event(event)) => match random.below(4) {
-            0 => event.payload = payload,
-            3 if event.kind == EventType::Latch => {
-                event.tally = random.among(&[-32_767, -32_766, -1, 1, 32_766, 32_767])
-            }
-            1 if event.kind != EventType::Output => event.kind = random.among(&KINDS),
-            _ => event.state = random.among(&EVENT_STATES),
-        },
+        Some(Object::Event(event)) => change_event(random, event, payload),
         Some(Object::Block(block)) => match random.below(3) {
             0 => block.creator = 1 + random.below(objects),
             _ => block.state = random.among(&BLOCK_STATES),
         },
         None => (),
+    }
+}
+
+fn change_event(random: &mut Random, event: &mut Event, payload: u64) {
+    match (random.below(4), event.kind) {
+        (0, _) => event.payload = payload,
+        (3, EventType::Latch) => event.tally = random.among(&[-32_767, -32_766, -1, 1, 32_766, 32_767]),
+        (3, EventType::Counted) => event.count = 1 + random.below(16),
+        (1, kind) if kind != EventType::Output => event.kind = random.among(&KINDS),
+        _ => event.state = random.among(&EVENT_STATES),
     }
 }
 
@@ -96,6 +100,9 @@ fn mend(random: &mut Random, session: &mut Session) {
     }
     if forgotten > 5 {
         mend_blocks(session);
+    }
+    if forgotten < 27 {
+        mend_counts(random, session);
     }
     let delivered = session.links.iter().filter(|link| link.state == LinkState::Delivered).count() as u64;
     session.dropped = session.dropped.min(delivered);
@@ -200,6 +207,26 @@ fn mend_blocks(session: &mut Session) {
     }
 }
 
+/// A counted event has a count that its links fit, often just that, and is destroyed when so many are delivered; other
+/// events have none.
+fn mend_counts(random: &mut Random, session: &mut Session) {
+    for handle in 1..=session.object_count() {
+        let (made, served) = (session.links_from(handle), session.delivered_from(handle));
+        let more = random.among(&[0, 0, 1, 5]);
+        let Some(event) = session.event_mut(handle) else { continue };
+        if event.kind != EventType::Counted {
+            event.count = 0;
+            continue;
+        }
+        if event.count == 0 || event.count < made {
+            event.count = (made.max(1) + more).min(made.max(16));
+        }
+        if served == event.count && event.state == EventState::Fired {
+            event.state = EventState::Destroyed { had_fired: true };
+        }
+    }
+}
+
 /// Whether the layout can hold it: an output event is the next one after its task, and a hold is its slot's or its
 /// block's.
 fn fits(session: &Session) -> bool {
@@ -214,29 +241,43 @@ fn fits(session: &Session) -> bool {
         })
 }
 
-#[test]
-fn changed_and_mended() {
-    let mut judge = Judge::new(4);
+fn counted(session: &Session) -> u64 {
+    let is_counted = |object: &&Object| matches!(object, Object::Event(event) if event.kind == EventType::Counted);
+    session.objects.iter().filter(is_counted).count() as u64
+}
+
+/// Sessions of lists of that edition; how many counted events there are in the sound ones that come of them.
+fn judge_mended(edition: Edition) -> u64 {
+    let mut judge = Judge::new(4).in_edition(edition);
+    let mut events = 0;
     for seed in 0..120 {
         let mut random = Random::part(seed, 77);
-        let calls = 30 + 2 * seed;
-        let mut list = random_list(seed, calls);
-        for _ in 0..calls {
-            list.next_call();
-        }
+        let whole = reached(edition, seed, 30 + 2 * seed);
         for _ in 0..40 {
-            let mut session = list.session.clone();
+            let mut session = whole.clone();
             for _ in 0..1 + random.below(3) {
                 change(&mut random, &mut session);
             }
             mend(&mut random, &mut session);
             if fits(&session) {
                 judge.judge(&to_words(&session));
+                events += if session.is_sound() { counted(&session) } else { 0 };
             }
         }
     }
-    println!("{:?}", judge.found);
+    println!("{:?}, {events} counted events in the sound ones", judge.found);
     assert!(judge.found.sound > 1_000 && judge.found.unsound > 1_000);
+    events
+}
+
+#[test]
+fn changed_and_mended() {
+    assert!(judge_mended(Edition::First) > 50);
+}
+
+#[test]
+fn changed_and_mended_in_edition_2() {
+    assert!(judge_mended(Edition::Second) > 5_000);
 }
 
 /// A delivery is dropped exactly if it would take the latch out of its range.

@@ -8,11 +8,15 @@ use compare::Memory;
 use second::steer::random_list;
 use second::*;
 
+/// Calls that make event 5: a sticky, and a counted one for one link.
+const STICKY: [u64; 3] = [3, 2, 3];
+const COUNTED: [u64; 3] = [13, 2, 1];
+
 /// Task 4 is destroyed, its slot satisfied with block 1, and a ready link from event 5 with payload 0 leads to it.
-fn unsettled() -> Session {
+fn unsettled(event: [u64; 3]) -> Session {
     let mut session = Session::fresh();
     for numbers in
-        [&[10, 2][..], &[11, 2], &[1, 2, 1], &[2, 2, 3, 17, 0, 0], &[3, 2, 3], &[5, 2, 5, 4, 0, 1], &[6, 2, 5, 0, 0]]
+        [&[10, 2][..], &[11, 2], &[1, 2, 1], &[2, 2, 3, 17, 0, 0], &event, &[5, 2, 5, 4, 0, 1], &[6, 2, 5, 0, 0]]
     {
         assert_eq!(session.apply(&Operation::new(numbers[0], &numbers[1..])).refused, 0, "{numbers:?}");
     }
@@ -24,13 +28,16 @@ fn unsettled() -> Session {
 
 #[test]
 fn the_next_call_is_refused_with_2() {
-    let mut pair = Pair::of(unsettled());
-    assert!(pair.memory.sound() && pair.second.is_sound());
-    let deliver = Operation::new(9, &[1]);
-    assert_eq!(pair.call(&deliver, Through::Apply), Answer { refused: 0, made: 0 });
-    assert!(!pair.memory.sound() && !is_sound(pair.memory.words()));
-    for code in 0..=13 {
-        assert_eq!(pair.call(&Operation::new(code, &[2, 1]), Through::Apply), Answer { refused: 2, made: 0 });
+    for (event, gone) in [(STICKY, false), (COUNTED, true)] {
+        let mut pair = Pair::of(unsettled(event));
+        assert!(pair.memory.sound() && pair.second.is_sound());
+        let deliver = Operation::new(9, &[1]);
+        assert_eq!(pair.call(&deliver, Through::Apply), Answer { refused: 0, made: 0 });
+        assert_eq!(pair.second.event(5).unwrap().is_gone(), gone);
+        assert!(!pair.memory.sound() && !is_sound(pair.memory.words()));
+        for code in 0..=14 {
+            assert_eq!(pair.call(&Operation::new(code, &[2, 1]), Through::Apply), Answer { refused: 2, made: 0 });
+        }
     }
 }
 
@@ -53,8 +60,8 @@ fn unsettle(session: &mut Session, payload: Option<u64>) -> Option<u64> {
 #[test]
 fn in_random_sessions() {
     let mut found = [0, 0];
-    for seed in 0..60 {
-        let mut list = random_list(seed, 400);
+    for (seed, edition) in (0..60).flat_map(|seed| [Edition::First, Edition::Second].map(|edition| (seed, edition))) {
+        let mut list = random_list(seed, 400).in_edition(edition);
         for _ in 0..300 {
             list.next_call();
         }
@@ -66,7 +73,7 @@ fn in_random_sessions() {
             assert_eq!(pair.call(&Operation::new(9, &[number]), Through::Apply).refused, 0);
             let sound = pair.second.is_sound();
             assert_eq!(pair.memory.sound(), sound, "seed {seed}");
-            let refused = pair.call(&Operation::new(13, &[]), Through::Apply).refused;
+            let refused = pair.call(&Operation::new(14, &[]), Through::Apply).refused;
             assert_eq!(refused, if sound { 6 } else { 2 }, "seed {seed}");
             found[usize::from(sound)] += 1;
         }
@@ -78,12 +85,14 @@ fn in_random_sessions() {
 /// A run looks at such a session at each record: the delivery is accepted, and the next record meets 2.
 #[test]
 fn a_run_looks_again() {
-    let mut words = to_words(&unsettled());
-    let mut memory = Memory::new(words.clone());
-    let sheet = [1, 9, 1, 7, 2, 0];
-    let (mut lines, mut wanted) = ([0; 100], [0; 100]);
-    let ended = memory.run(&sheet, &mut lines, 0);
-    assert_eq!(&lines[..ended.used], b"1 0 0\n2 2 0\n");
-    assert_eq!(ended, runs::run(&mut words, &sheet, &mut wanted, 0));
-    assert!(lines == wanted && memory.words() == words);
+    for (event, edition) in [(STICKY, 1), (STICKY, 2), (COUNTED, 1), (COUNTED, 2)] {
+        let mut words = to_words(&unsettled(event));
+        let mut memory = Memory::new(words.clone());
+        let sheet = [edition, 9, 1, 7, 2, 0];
+        let (mut lines, mut wanted) = ([0; 100], [0; 100]);
+        let ended = memory.run(&sheet, &mut lines, 0);
+        assert_eq!(&lines[..ended.used], b"1 0 0\n2 2 0\n");
+        assert_eq!(ended, runs::run(&mut words, &sheet, &mut wanted, 0));
+        assert!(lines == wanted && memory.words() == words);
+    }
 }

@@ -2,7 +2,7 @@
 
 use crate::operation::Operation;
 
-/// "Operations: code, then fields".
+/// "Operations: code, then fields", and "Operation 13 (caller, count 1..16)".
 #[derive(Clone, Copy, Debug, PartialEq, Eq)]
 pub enum Call {
     Template { caller: u64, count: u64 },
@@ -17,6 +17,7 @@ pub enum Call {
     Grant { task: u64 },
     Start { task: u64 },
     End { task: u64, block: u64 },
+    Counted { caller: u64, count: u64 },
 }
 
 impl Call {
@@ -36,11 +37,12 @@ impl Call {
             10 => Call::Grant { task: a },
             11 => Call::Start { task: a },
             12 => Call::End { task: a, block: b },
+            13 => Call::Counted { caller: a, count: b },
             _ => return None,
         })
     }
 
-    /// "the caller must be a running task": operations 1 to 8 have one.
+    /// "the caller must be a running task": operations 1 to 8 and 13 have one.
     pub fn caller(&self) -> Option<u64> {
         match *self {
             Call::Template { caller, .. }
@@ -50,7 +52,8 @@ impl Call {
             | Call::Dependence { caller, .. }
             | Call::Satisfy { caller, .. }
             | Call::Release { caller, .. }
-            | Call::Destroy { caller, .. } => Some(caller),
+            | Call::Destroy { caller, .. }
+            | Call::Counted { caller, .. } => Some(caller),
             Call::Deliver { .. } | Call::Grant { .. } | Call::Start { .. } | Call::End { .. } => None,
         }
     }

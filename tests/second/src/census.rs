@@ -6,9 +6,9 @@ use crate::operation::{Answer, Operation};
 pub struct Census {
     pub calls: u64,
     /// By the operation's code.
-    pub accepted: [u64; 13],
+    pub accepted: [u64; 14],
     /// By the refusal's number.
-    pub refused: [u64; 22],
+    pub refused: [u64; 25],
 }
 
 impl Census {
@@ -20,10 +20,15 @@ impl Census {
         }
     }
 
-    /// Every operation was accepted, and each of these refusals came up.
+    /// Every operation of edition 1 was accepted, and each of these refusals came up.
     pub fn check(&self, refusals: impl IntoIterator<Item = usize>) {
+        self.check_codes(1..=12, refusals);
+    }
+
+    /// Each of these operations was accepted, and each of these refusals came up.
+    pub fn check_codes(&self, codes: impl IntoIterator<Item = usize>, refusals: impl IntoIterator<Item = usize>) {
         println!("calls {} accepted {:?} refused {:?}", self.calls, self.accepted, self.refused);
-        for code in 1..=12 {
+        for code in codes {
             assert!(self.accepted[code] > 0, "operation {code} was never accepted");
         }
         for number in refusals {

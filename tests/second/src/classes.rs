@@ -1,9 +1,10 @@
 //! Random class files.
 
+use crate::edition::Edition;
 use crate::number::{write_number, MAX_NUMBER};
 use crate::random::Random;
 use crate::sheet::MAX_SHEET;
-use crate::sheets::{random_sheet, short_sheet};
+use crate::sheets::{random_sheet_of, short_sheet};
 
 /// What a class file is for; file i of a seed has theme i modulo their number.
 #[derive(Clone, Copy, Debug, PartialEq, Eq)]
@@ -113,13 +114,14 @@ const ENTRY: usize = 4;
 /// Class files of one seed.
 pub struct Classes {
     seed: u64,
-    /// Long sheets take long to draw, so the classes of a seed have theirs in common.
+    /// Long sheets take long to draw, so the classes of a seed have theirs in common, some of each edition.
     pool: Vec<Vec<u8>>,
 }
 
 impl Classes {
     pub fn new(seed: u64) -> Classes {
-        Classes { seed, pool: (0..64).map(|index| random_sheet(seed, index)).collect() }
+        let edition = |index| if index < 40 { Edition::First } else { Edition::Second };
+        Classes { seed, pool: (0..64).map(|index| random_sheet_of(edition(index), seed, index)).collect() }
     }
 
     /// Class file `index` of the seed: always the same bytes.

@@ -1,7 +1,8 @@
 //! The second engine: an independent reading of document 01, to be compared with the proved one.
 //!
 //! One idea a file. The doc comments quote the sentence of document 01 that the code follows; "reading n" is section 7
-//! of the design. The class report follows requests E1 and E2 of document 02.
+//! of the design. The class report follows requests E1 and E2 of document 02, counted events and the editions
+//! request E4.
 
 pub mod call;
 pub mod census;
@@ -10,6 +11,7 @@ pub mod class;
 pub mod classes;
 pub mod counts;
 pub mod descent;
+pub mod edition;
 pub mod hold;
 pub mod lines;
 pub mod link;
@@ -29,6 +31,7 @@ pub mod unsound;
 
 pub use call::Call;
 pub use census::Census;
+pub use edition::Edition;
 pub use hold::{Hold, Place};
 pub use link::{Link, LinkState};
 pub use mode::Mode;

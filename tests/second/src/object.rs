@@ -70,7 +70,7 @@ impl Slot {
     pub const UNCLAIMED: Slot = Slot { mode: None, satisfied: false, payload: 0 };
 }
 
-/// "type 1 once, 2 idempotent, 3 sticky, 4 latch, 5 output".
+/// "type 1 once, 2 idempotent, 3 sticky, 4 latch, 5 output"; "Operation 13 (caller, count 1..16) makes one, of type 6."
 #[derive(Clone, Copy, Debug, PartialEq, Eq)]
 pub enum EventType {
     Once,
@@ -78,6 +78,7 @@ pub enum EventType {
     Sticky,
     Latch,
     Output,
+    Counted,
 }
 
 impl TryFrom<u64> for EventType {
@@ -90,8 +91,29 @@ impl TryFrom<u64> for EventType {
             3 => Ok(EventType::Sticky),
             4 => Ok(EventType::Latch),
             5 => Ok(EventType::Output),
+            6 => Ok(EventType::Counted),
             _ => Err(Unsound),
         }
+    }
+}
+
+/// What the types are like, one question each.
+impl EventType {
+    /// "Once, latch and output count as gone as soon as fired"; a counted event "stays for later links".
+    pub fn goes_when_fired(self) -> bool {
+        matches!(self, EventType::Once | EventType::Latch | EventType::Output)
+    }
+
+    /// A sticky; a counted event "takes one satisfaction as sticky does (a second call gives 14, a second delivery is
+    /// dropped)".
+    pub fn takes_one(self) -> bool {
+        matches!(self, EventType::Sticky | EventType::Counted)
+    }
+
+    /// "an event of type 1 to 4", where a call names an event other than as a source; a counted one "may be source,
+    /// destination, satisfied or destroyed wherever types 1 to 4 may".
+    pub fn is_admitted(self) -> bool {
+        self != EventType::Output
     }
 }
 
@@ -111,6 +133,9 @@ pub struct Event {
     pub payload: u64,
     /// "A latch counts increments minus decrements from 0"; 0 for the other types.
     pub tally: i64,
+    /// "goes by itself once a stated number of dependences has been served": that number, 1 to 16 for a counted event; 0
+    /// for the other types.
+    pub count: u64,
 }
 
 /// How far a latch's count may be from 0.
@@ -118,14 +143,18 @@ pub const LATCH_RANGE: i64 = 32_767;
 
 impl Event {
     pub fn open(kind: EventType) -> Event {
-        Event { kind, state: EventState::Open, payload: 0, tally: 0 }
+        Event { kind, state: EventState::Open, payload: 0, tally: 0, count: 0 }
+    }
+
+    pub fn counted(count: u64) -> Event {
+        Event { count, ..Event::open(EventType::Counted) }
     }
 
     /// "Once, latch and output count as gone as soon as fired, their state staying fired".
     pub fn is_gone(&self) -> bool {
         match self.state {
             EventState::Open => false,
-            EventState::Fired => matches!(self.kind, EventType::Once | EventType::Latch | EventType::Output),
+            EventState::Fired => self.kind.goes_when_fired(),
             EventState::Destroyed { .. } => true,
         }
     }
@@ -135,13 +164,19 @@ impl Event {
         matches!(self.state, EventState::Fired | EventState::Destroyed { had_fired: true })
     }
 
-    /// "types 1 to 3 have slot 0; a latch has 0 (decrement) and 1 (increment)". An output event has none.
+    /// "types 1 to 3 have slot 0; a latch has 0 (decrement) and 1 (increment)". An output event has none. A counted one
+    /// "has slot 0".
     pub fn slot_count(&self) -> u64 {
         match self.kind {
-            EventType::Once | EventType::Idempotent | EventType::Sticky => 1,
+            EventType::Once | EventType::Idempotent | EventType::Sticky | EventType::Counted => 1,
             EventType::Latch => 2,
             EventType::Output => 0,
         }
+    }
+
+    /// A satisfied sticky, or a counted event likewise: there still, and taking no other satisfaction.
+    pub fn has_taken_one(&self) -> bool {
+        self.kind.takes_one() && self.state == EventState::Fired
     }
 
     /// What a latch would count after a satisfaction of that slot.

@@ -17,10 +17,10 @@ pub struct Answer {
     pub made: u64,
 }
 
-/// How many fields an operation has; `None` for an unknown code.
+/// How many fields an operation has; `None` for an unknown code. A record's edition may know fewer codes.
 pub fn field_count(code: u64) -> Option<usize> {
     match code {
-        1 | 3 | 4 | 7 | 8 | 12 => Some(2),
+        1 | 3 | 4 | 7 | 8 | 12 | 13 => Some(2),
         2 | 5 => Some(5),
         6 => Some(4),
         9..=11 => Some(1),

@@ -1,7 +1,7 @@
 //! A session and the ways to look things up in it.
 
 use crate::hold::Hold;
-use crate::link::Link;
+use crate::link::{Link, LinkState};
 use crate::mode::Mode;
 use crate::object::*;
 
@@ -75,6 +75,16 @@ impl Session {
 
     pub fn link(&self, number: u64) -> Option<&Link> {
         self.links.get(place(number)?)
+    }
+
+    /// How many links were made from an event, in whatever state they are.
+    pub fn links_from(&self, source: u64) -> u64 {
+        self.links.iter().filter(|link| link.source == source).count() as u64
+    }
+
+    pub fn delivered_from(&self, source: u64) -> u64 {
+        let delivered = |link: &&Link| link.source == source && link.state == LinkState::Delivered;
+        self.links.iter().filter(delivered).count() as u64
     }
 
     pub fn object_mut(&mut self, handle: u64) -> Option<&mut Object> {

@@ -1,5 +1,6 @@
 //! Running sheets.
 
+use crate::edition::Edition;
 use crate::lines::{answer_line, last_line};
 use crate::operation::{Answer, Operation};
 use crate::record::{read_first, read_record};
@@ -38,14 +39,14 @@ pub(crate) fn run_each(
     lent: bool,
     mut answered: impl FnMut(u64, Option<Operation>, Answer),
 ) {
-    let mut rest = match begin(session, sheet, lent) {
-        Ok(used) => &sheet[used..],
+    let (edition, mut rest) = match begin(session, sheet, lent) {
+        Ok((edition, used)) => (edition, &sheet[used..]),
         Err(refused) => return answered(0, None, Answer { refused, made: 0 }),
     };
     let mut record = 0;
     while !rest.is_empty() {
         record += 1;
-        match step(session, rest, lent) {
+        match step(session, rest, edition, lent) {
             Ok((operation, answer, used)) => {
                 answered(record, Some(operation), answer);
                 rest = &rest[used..];
@@ -55,7 +56,7 @@ pub(crate) fn run_each(
     }
 }
 
-fn begin(session: &Session, sheet: &[u8], lent: bool) -> Result<usize, u32> {
+fn begin(session: &Session, sheet: &[u8], lent: bool) -> Result<(Edition, usize), u32> {
     if lent && !session.is_sound() {
         return Err(2);
     }
@@ -63,10 +64,10 @@ fn begin(session: &Session, sheet: &[u8], lent: bool) -> Result<usize, u32> {
 }
 
 /// Run the record that begins here: its operation, answer and length, or the refusal that ends the sheet.
-fn step(session: &mut Session, rest: &[u8], lent: bool) -> Result<(Operation, Answer, usize), u32> {
+fn step(session: &mut Session, rest: &[u8], edition: Edition, lent: bool) -> Result<(Operation, Answer, usize), u32> {
     if lent && !session.is_sound() {
         return Err(2);
     }
-    let (operation, used) = read_record(rest)?;
+    let (operation, used) = read_record(rest, edition)?;
     Ok((operation, session.apply(&operation), used))
 }

@@ -1,5 +1,6 @@
 //! Random sheets.
 
+use crate::edition::Edition;
 use crate::random::Random;
 use crate::record::write_record;
 use crate::sheet::MAX_SHEET;
@@ -20,7 +21,7 @@ enum Theme {
     Flipped,
     /// A number longer than needed, or an unknown code, behind good records.
     Spoilt,
-    /// A first number that is not 1.
+    /// A first number that is not that of the edition.
     First,
 }
 
@@ -43,22 +44,30 @@ const THEMES: [Theme; 16] = [
     Theme::Flipped,
 ];
 
-/// Sheet `index` of a seed: always the same bytes, at most 32,768 of them.
+/// Sheet `index` of a seed, of edition 1: always the same bytes, at most 32,768 of them.
 pub fn random_sheet(seed: u64, index: u64) -> Vec<u8> {
-    themed_sheet(Random::part(seed, index), THEMES[index as usize % THEMES.len()])
+    random_sheet_of(Edition::First, seed, index)
 }
 
-/// A sheet of less than 60 bytes or so, in two cases of five with a fault: a class has room for many of them.
+/// The same of either edition.
+pub fn random_sheet_of(edition: Edition, seed: u64, index: u64) -> Vec<u8> {
+    themed_sheet(edition, Random::part(seed, index), THEMES[index as usize % THEMES.len()])
+}
+
+/// A sheet of less than 60 bytes or so, in two cases of five with a fault: a class has room for many of them. Two of
+/// five are of edition 2.
 pub fn short_sheet(random: &mut Random) -> Vec<u8> {
-    let mut sheet = themed_sheet(Random::new(random.draw()), Theme::Short);
+    let mut own = Random::new(random.draw());
+    let edition = if own.percent(40) { Edition::Second } else { Edition::First };
+    let mut sheet = themed_sheet(edition, own, Theme::Short);
     if random.percent(40) {
         let theme = random.among(&[Theme::Cut, Theme::Flipped, Theme::Spoilt, Theme::First]);
-        spoil(&mut sheet, theme, random);
+        spoil(&mut sheet, edition, theme, random);
     }
     sheet
 }
 
-fn themed_sheet(mut random: Random, theme: Theme) -> Vec<u8> {
+fn themed_sheet(edition: Edition, mut random: Random, theme: Theme) -> Vec<u8> {
     let (goal, length) = match theme {
         Theme::Short => (Goal::Nothing, random.below(60)),
         Theme::Long => (Goal::Nothing, MAX_SHEET as u64 - random.below(40)),
@@ -67,20 +76,20 @@ fn themed_sheet(mut random: Random, theme: Theme) -> Vec<u8> {
         Theme::Links => (Goal::Links, 20_000 + random.below(12_000)),
         _ => (Goal::Nothing, 200 + random.below(6_000)),
     };
-    let mut sheet = vec![1];
-    fill(&mut sheet, Random::new(random.draw()), goal, length as usize);
-    spoil(&mut sheet, theme, &mut random);
+    let mut sheet = vec![edition.number() as u8];
+    fill(&mut sheet, edition, Random::new(random.draw()), goal, length as usize);
+    spoil(&mut sheet, edition, theme, &mut random);
     sheet.truncate(MAX_SHEET);
     sheet
 }
 
 /// Records behind the first number, as long as they fit.
-fn fill(sheet: &mut Vec<u8>, random: Random, goal: Goal, length: usize) {
+fn fill(sheet: &mut Vec<u8>, edition: Edition, random: Random, goal: Goal, length: usize) {
     // A record takes some five bytes.
-    let mut steer = Steer::new(random, Reach::Records, goal, length as u64 / 5);
+    let mut steer = Steer::new(random, Reach::Records, goal, length as u64 / 5).in_edition(edition);
     while sheet.len() < length {
         let (operation, _) = steer.next_call();
-        match write_record(&operation) {
+        match write_record(&operation, edition.number()) {
             Ok(record) if sheet.len() + record.len() <= length => sheet.extend(record),
             _ => break,
         }
@@ -88,7 +97,7 @@ fn fill(sheet: &mut Vec<u8>, random: Random, goal: Goal, length: usize) {
 }
 
 /// Give the sheet the faults of its theme.
-fn spoil(sheet: &mut Vec<u8>, theme: Theme, random: &mut Random) {
+fn spoil(sheet: &mut Vec<u8>, edition: Edition, theme: Theme, random: &mut Random) {
     let length = sheet.len() as u64;
     match theme {
         Theme::Cut => sheet.truncate(random.below(length + 1) as usize),
@@ -99,13 +108,31 @@ fn spoil(sheet: &mut Vec<u8>, theme: Theme, random: &mut Random) {
                 sheet[place as usize] ^= 1 << random.below(8);
             }
         }
-        Theme::Spoilt => sheet.extend_from_slice(random.among(&BAD_RECORDS)),
+        Theme::Spoilt => sheet.extend_from_slice(bad_record(edition, random)),
         Theme::First => {
             sheet.remove(0);
-            let first = random.among(&BAD_FIRSTS);
+            let first = bad_first(edition, random);
             sheet.splice(0..0, first.iter().copied());
         }
         _ => (),
+    }
+}
+
+/// A record that ends a sheet of edition 1; of edition 2, where 14 is the first code that is not known.
+fn bad_record(edition: Edition, random: &mut Random) -> &'static [u8] {
+    match (edition, random.among(&BAD_RECORDS)) {
+        (Edition::Second, [13, ..]) => &[14, 2, 1],
+        (_, record) => record,
+    }
+}
+
+/// Not the number of the edition. Sheets of edition 1 with the first number 2 were bad ones once, and run as sheets of
+/// edition 2 now.
+fn bad_first(edition: Edition, random: &mut Random) -> &'static [u8] {
+    match (edition, random.among(&BAD_FIRSTS)) {
+        (Edition::Second, [2]) => &[3],
+        (Edition::Second, [129, 0]) => &[130, 0],
+        (_, first) => first,
     }
 }
 

@@ -2,8 +2,8 @@
 
 use second::class::{count_sheet, report, superseding, Tally};
 use second::number::MAX_NUMBER;
-use second::sheets::random_sheet;
-use second::{parse_sheet, run_sheet};
+use second::sheets::random_sheet_of;
+use second::{parse_sheet, run_sheet, Edition};
 
 fn reported(file: &[u8]) -> String {
     let mut out = vec![];
@@ -103,9 +103,18 @@ const DROPPED: [u8; 29] = [1, 10, 2, 11, 2, 3, 2, 1, 3, 2, 1, 5, 2, 3, 4, 0, 1, 
 #[test]
 fn counts_and_sums() {
     let lines = "1 1 1 1 0 0 / 2 1 1 1 0 0 / 3 1 1 1 0 0 / 4 1 0 0 0 0 / 3 3 0 0";
-    check(&class_of(&[&[129], &[129, 0], &[2, 10, 2], &[1]]), lines);
+    check(&class_of(&[&[129], &[129, 0], &[3, 10, 2], &[1]]), lines);
     let lines = "1 1 8 0 1 1 / 2 1 4 2 1 0 / 3 1 2 1 0 0 / 14 3 2 1";
     check(&class_of(&[&DROPPED, &[1, 11, 2, 10, 2, 11, 2, 13, 10, 2], &[1, 10, 2, 11]]), lines);
+}
+
+/// Sheets of both editions in one class: in the second, counted event 3 goes with a dropped delivery to itself.
+#[test]
+fn sheets_of_both_editions() {
+    let second = [2, 10, 2, 11, 2, 13, 2, 1, 5, 2, 3, 3, 0, 1, 6, 2, 3, 0, 0, 9, 1, 6, 2, 3, 0, 0];
+    let first = [&[1], &second[1..]].concat();
+    let lines = "1 1 3 1 1 0 / 2 1 7 1 1 1 / 3 1 1 1 0 0 / 4 1 0 0 0 0 / 11 3 2 1";
+    check(&class_of(&[&first, &second, &[3], &[2]]), lines);
 }
 
 /// A file of one learner, each sheet with its turn; the report has one line, of the sheet that counts.
@@ -245,8 +254,9 @@ fn count_lines(sheet: &[u8]) -> Tally {
 #[test]
 fn counts_are_those_of_the_printed_lines() {
     let mut most = Tally::default();
-    for index in 0..48 {
-        let sheet = random_sheet(31, index);
+    for index in 0..96 {
+        let edition = if index < 48 { Edition::First } else { Edition::Second };
+        let sheet = random_sheet_of(edition, 31, index);
         let tally = count_sheet(&sheet);
         assert_eq!(tally, count_lines(&sheet), "sheet {index}");
         most.starts = most.starts.max(tally.starts);

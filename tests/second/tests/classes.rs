@@ -4,6 +4,7 @@ use second::class::{count_sheet, listed, read_entries, report, superseding, Entr
 use second::classes::Classes;
 use second::random::Random;
 use second::record::read_number;
+use second::{parse_sheet, Session};
 
 const FILES: u64 = 600;
 
@@ -175,6 +176,14 @@ struct Shown {
     zeros: u64,
     /// By the number of sheets listed.
     listed: [u64; 9],
+    /// Sheets of both editions are listed; one that makes a counted event is.
+    both_editions: u64,
+    counted: u64,
+}
+
+fn makes_counted(sheet: &[u8]) -> bool {
+    let mut session = Session::fresh();
+    parse_sheet(sheet).0.iter().any(|operation| session.apply(operation).refused == 0 && operation.code == 13)
 }
 
 const STOPS: [u32; 4] = [3, 4, 22, 23];
@@ -190,6 +199,14 @@ impl Shown {
         self.zeros += u64::from(entries.first().is_some_and(|first| (first.learner, first.turn) == (0, 0)));
         let listed = reported(file).lines().count() - 2;
         self.listed[listed.min(8)] += 1;
+        self.count_editions(&entries);
+    }
+
+    fn count_editions(&mut self, entries: &[Entry]) {
+        let counting = listed(entries);
+        let begins = |edition| counting.iter().any(|entry| entry.sheet.first() == Some(&edition));
+        self.both_editions += u64::from(begins(1) && begins(2));
+        self.counted += u64::from(counting.iter().any(|entry| makes_counted(entry.sheet)));
     }
 
     fn count_stop(&mut self, file: &[u8], stop: u32, entries: &[Entry]) {
@@ -235,6 +252,7 @@ fn what_random_classes_show() {
     let superseded = [shown.by_higher, shown.by_equal, shown.by_earlier, shown.counts_differ];
     assert!(superseded.iter().all(|count| *count >= FILES / 5));
     assert!(shown.zeros >= 5 && shown.listed.iter().all(|count| *count > 0));
+    assert!(shown.both_editions >= FILES / 5 && shown.counted >= FILES / 10);
 }
 
 #[test]

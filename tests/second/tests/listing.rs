@@ -1,4 +1,4 @@
-//! Whole sheets whose output document 01 gives.
+//! Whole sheets whose output document 01 gives, and the cases of E4.
 
 use second::run_sheet;
 
@@ -11,6 +11,22 @@ fn the_listing() {
     ];
     let output = b"1 0 0\n2 0 0\n3 0 3\n4 0 4\n5 0 6\n6 0 1\n7 0 0\n8 0 0\n9 18 0\n10 0 0\n11 0 0\n12 0 0\n1 0 0\n";
     assert_eq!(run_sheet(&sheet), output);
+    // It uses no operation that edition 2 has alone.
+    let later = [&[2], &sheet[1..]].concat();
+    assert_eq!(run_sheet(&later), output);
+}
+
+/// The cases named E4, worked out by hand.
+#[test]
+fn the_cases_of_e4() {
+    let sheet = [
+        2, 10, 2, 11, 2, 13, 2, 1, 1, 2, 1, 2, 2, 4, 17, 0, 0, 5, 2, 3, 5, 0, 1, 5, 2, 3, 3, 0, 1, 6, 2, 3, 1, 0, 6, 2,
+        3, 0, 0, 9, 1, 6, 2, 3, 0, 0, 5, 2, 3, 3, 0, 1, 8, 2, 3,
+    ];
+    let output =
+        b"1 0 0\n2 0 0\n3 0 3\n4 0 4\n5 0 5\n6 0 1\n7 24 0\n8 0 0\n9 14 0\n10 0 0\n11 11 0\n12 11 0\n13 11 0\n2 0 0\n";
+    assert_eq!(run_sheet(&sheet), output);
+    assert_eq!(run_sheet(&[1, 13, 2, 1]), b"1 6 0\n1 0 0\n");
 }
 
 /// P7: "empty sheet: `0 3 0`, then `1 0 0`".
@@ -22,8 +38,12 @@ fn the_empty_sheet() {
 #[test]
 fn a_first_number_alone() {
     assert_eq!(run_sheet(&[1]), b"1 0 0\n");
-    assert_eq!(run_sheet(&[2]), b"0 5 0\n1 0 0\n");
+    assert_eq!(run_sheet(&[2]), b"1 0 0\n");
+    assert_eq!(run_sheet(&[0]), b"0 5 0\n1 0 0\n");
+    assert_eq!(run_sheet(&[3]), b"0 5 0\n1 0 0\n");
+    assert_eq!(run_sheet(&[130, 1]), b"0 5 0\n1 0 0\n");
     assert_eq!(run_sheet(&[129, 0]), b"0 4 0\n1 0 0\n");
+    assert_eq!(run_sheet(&[130, 0]), b"0 4 0\n1 0 0\n");
     assert_eq!(run_sheet(&[129]), b"0 3 0\n1 0 0\n");
 }
 
@@ -31,6 +51,8 @@ fn a_first_number_alone() {
 #[test]
 fn a_bad_record_ends_the_sheet() {
     assert_eq!(run_sheet(&[1, 10, 2, 13, 10, 2]), b"1 0 0\n2 6 0\n1 0 0\n");
+    assert_eq!(run_sheet(&[2, 10, 2, 13, 2, 1, 11, 2]), b"1 0 0\n2 8 0\n3 0 0\n1 0 0\n");
+    assert_eq!(run_sheet(&[2, 10, 2, 14, 10, 2]), b"1 0 0\n2 6 0\n1 0 0\n");
     assert_eq!(run_sheet(&[1, 10, 2, 9, 129, 0, 10, 2]), b"1 0 0\n2 4 0\n1 0 0\n");
     assert_eq!(run_sheet(&[1, 10, 2, 2, 2]), b"1 0 0\n2 3 0\n1 0 0\n");
     assert_eq!(run_sheet(&[1, 10, 1, 10, 2]), b"1 10 0\n2 0 0\n1 0 0\n");

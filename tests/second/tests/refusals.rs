@@ -8,10 +8,12 @@ use second::Session;
 #[test]
 fn unknown_codes_and_large_fields() {
     let mut session = running();
-    for code in [0, 13, 1 << 32, u64::MAX] {
+    for code in [0, 14, 15, 1 << 32, u64::MAX] {
         refuse(&mut session, &[code, 2, 1], 6);
     }
     refuse(&mut session, &[1, 2, u64::MAX], 7);
+    refuse(&mut session, &[13, 2, u64::MAX], 7);
+    refuse(&mut session, &[13, u64::MAX, 16], 8);
     refuse(&mut session, &[1, u64::MAX, 0], 8);
     refuse(&mut session, &[9, u64::MAX], 9);
     accept(&mut session, &[3, 2, 4], 3);

@@ -123,6 +123,118 @@ fn damaged_outputs_and_events() {
     damage(|session| event(session, 10).state = EventState::Destroyed { had_fired: false });
 }
 
+fn make_counted(session: &mut Session, handle: u64, count: u64) {
+    let event = event(session, handle);
+    (event.kind, event.count) = (EventType::Counted, count);
+}
+
+/// The sample with a counted event in place of sticky 10, which has fired, one of its two links delivered; then changed.
+fn fired(count: u64, change: impl Fn(&mut Session)) -> impl Fn(&mut Session) {
+    move |session| {
+        make_counted(session, 10, count);
+        change(session);
+    }
+}
+
+/// The same with sticky 6, which is open and has one link.
+fn open(count: u64, change: impl Fn(&mut Session)) -> impl Fn(&mut Session) {
+    move |session| {
+        make_counted(session, 6, count);
+        change(session);
+    }
+}
+
+/// Both links from event 10.
+fn deliver_both(session: &mut Session) {
+    session.links[2].state = LinkState::Delivered;
+}
+
+fn destroy(session: &mut Session, handle: u64, had_fired: bool) {
+    event(session, handle).state = EventState::Destroyed { had_fired };
+}
+
+fn as_it_is(_: &mut Session) {}
+
+/// "the count 1 to 16 for type 6 and 0 elsewhere".
+#[test]
+fn damaged_counts() {
+    for count in [2, 3, 16] {
+        harmless(fired(count, as_it_is));
+    }
+    for count in [1, 2, 3, 16] {
+        harmless(open(count, as_it_is));
+    }
+    for count in [0, 17, 18, 1 << 32, u64::MAX] {
+        damage(fired(count, as_it_is));
+        damage(fired(count, |session| destroy(session, 10, true)));
+        damage(open(count, as_it_is));
+    }
+    // On a sticky, open and fired, a once, a latch and two outputs.
+    for (handle, count) in [6, 10, 11, 7, 5, 13].into_iter().flat_map(|handle| [(handle, 1), (handle, 16)]) {
+        damage(|session| event(session, handle).count = count);
+    }
+}
+
+/// "no counted event with more links than its count, and one with that many delivered is destroyed".
+#[test]
+fn damaged_links_of_counted_events() {
+    // Two links, one of them delivered.
+    damage(fired(1, as_it_is));
+    damage(fired(1, |session| destroy(session, 10, true)));
+    harmless(fired(2, |session| destroy(session, 10, true)));
+    // Two links, both delivered: fired is sound with one more to come.
+    damage(fired(2, deliver_both));
+    harmless(fired(3, deliver_both));
+    for (count, had_fired) in [(1, true), (1, false), (2, false), (3, false)] {
+        damage(fired(count, |session| {
+            deliver_both(session);
+            destroy(session, 10, had_fired);
+        }));
+    }
+    for count in [2, 3] {
+        harmless(fired(count, |session| {
+            deliver_both(session);
+            destroy(session, 10, true);
+        }));
+    }
+    // Sixteen links, and one more.
+    harmless(fired(16, |session| session.links.resize(17, session.links[2])));
+    damage(fired(16, |session| session.links.resize(18, session.links[2])));
+    // All but one delivered, then all.
+    harmless(fired(16, |session| session.links.resize(17, session.links[1])));
+    damage(fired(16, |session| {
+        session.links.resize(17, session.links[1]);
+        deliver_both(session);
+    }));
+    // Links to it are none from it.
+    harmless(fired(2, |session| {
+        *event(session, 11) = Event::open(EventType::Once);
+        let to_it = Link { source: 11, destination: 10, slot: 0, state: LinkState::Open };
+        session.links.resize(20, to_it);
+    }));
+}
+
+/// All other rules for a counted event are those of a sticky.
+#[test]
+fn counted_events_are_stickies_otherwise() {
+    damage(fired(2, |session| event(session, 10).payload = 2));
+    damage(fired(2, |session| event(session, 10).tally = 1));
+    damage(fired(2, |session| event(session, 10).state = EventState::Open));
+    damage(open(1, |session| event(session, 6).state = EventState::Fired));
+    damage(open(1, |session| event(session, 6).payload = 1));
+    damage(open(1, |session| destroy(session, 6, false)));
+    harmless(open(1, |session| {
+        destroy(session, 6, false);
+        session.links[0].state = LinkState::Cut;
+    }));
+    // Its slot is 0; the sample's link goes to slot 1 of a latch.
+    damage(fired(2, |session| session.links[2].destination = 10));
+    harmless(fired(2, |session| (session.links[2].destination, session.links[2].slot) = (10, 0)));
+    // It is no output event.
+    damage(|session| make_counted(session, 5, 1));
+    damage(|session| make_counted(session, 13, 1));
+}
+
 #[test]
 fn damaged_blocks_and_holds() {
     damage(|session| block(session, 1).creator = 2);

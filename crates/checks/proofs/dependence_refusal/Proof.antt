@@ -131,7 +131,9 @@ returns-9 c =
     stops _ _ _ (past-10 (c .before .before .before .before)) (λ x. x .1 (yes _ (c .before .is-gone .ensures) (c .if9 .taken)))
 
 has-slot-requires : tie.Need-has-slot-requires
-has-slot-requires c κs = search needs
+has-slot-requires c κs =
+    let d = c .before .before .before .before in
+    (search needs, yes-not _ (d .before .is-destination .ensures) (d .if7 .left))
 
 returns-10 : tie.Need-returns-10
 returns-10 c = stops _ _ _ (past-11 (c .before .before)) (no-not _ (c .before .has-slot .ensures) (c .if10 .taken))

@@ -126,7 +126,7 @@ returns-7 c =
 has-event-slot-requires : tie.Need-has-event-slot-requires
 has-event-slot-requires c κs =
     let u = c .before .before .before .before .before .before in
-    (search needs, yes-not _ (u .before .is-user-event .ensures) (u .if4 .left) .0)
+    (search needs, yes-not _ (u .before .is-user-event .ensures) (u .if4 .left))
 
 returns-8 : tie.Need-returns-8
 returns-8 c = stops _ _ _ (past-11 (c .before .before)) (no-not _ (c .before .has-event-slot .ensures) (c .if8 .taken))

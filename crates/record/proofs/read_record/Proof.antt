@@ -38,32 +38,32 @@ enum-known-n c = search needs
 
 read-fields-requires : tie.Need-read-fields-requires
 read-fields-requires c κs =
-    let known = arity-known _ _ (sym (c .before .before .before .arity-of .ensures) ∙ c .before .n .given .1) in
-    rw (known .1) (fields-few _ (known .0))
+    let known = arity-known _ _ _ (sym (c .before .before .before .arity-of .ensures) ∙ c .before .n .given .1) in
+    rw (known .1) (fields-few _ (known .0 .0))
 
 returns : tie.Need-returns
 returns c =
-    c .refuse .ensures ∙ sym (record-cut _ _ (sym (c .before .before .before .read .ensures) ∙ c .before .enum-told .given .1))
+    c .refuse .ensures ∙ sym (record-cut _ _ _ (sym (c .before .before .before .read .ensures) ∙ c .before .enum-told .given .1))
 
 returns-2 : tie.Need-returns-2
 returns-2 c =
     c .refuse2 .ensures
-    ∙ sym (record-bad _ _ _ (sym (c .before .before .before .read .ensures) ∙ c .before .enum-told2 .given .1))
+    ∙ sym (record-bad _ _ _ _ (sym (c .before .before .before .read .ensures) ∙ c .before .enum-told2 .given .1))
 
 returns-3 : tie.Need-returns-3
 returns-3 c =
     let at-code = c .before .before .before .before .before in
     let code = sym (at-code .before .before .read .ensures) ∙ at-code .code .given .1 in
     let unknown = sym (c .before .before .before .arity-of .ensures) ∙ c .before .enum-told3 .given .1 in
-    c .refuse3 .ensures ∙ sym (record-unknown _ _ _ _ code (arity-unknown _ unknown))
+    c .refuse3 .ensures ∙ sym (record-unknown _ _ _ _ _ code (arity-unknown _ _ unknown))
 
 returns-4 : tie.Need-returns-4
 returns-4 c =
     let at-arity-of = c .before .before .before .before in
     let at-read = at-arity-of .before .before .before .before in
     let code = sym (at-read .read .ensures) ∙ at-arity-of .before .before .code .given .1 in
-    let known = arity-known _ _ (sym (at-arity-of .arity-of .ensures) ∙ c .before .before .n .given .1) in
-    c .read-fields .ensures ∙ rw (known .1) (sym (record-known _ _ _ _ code (known .0)))
+    let known = arity-known _ _ _ (sym (at-arity-of .arity-of .ensures) ∙ c .before .before .n .given .1) in
+    c .read-fields .ensures ∙ rw (known .1) (sym (record-known _ _ _ _ _ code (known .0)))
 
 pub read-record-spec : {M : Type 1} → statement M
 read-record-spec =

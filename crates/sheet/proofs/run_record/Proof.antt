@@ -1,6 +1,6 @@
 -- `sheet::run_record` meets its contract, by the cases of a record.
 use Prim.Native.Nat.{_≤_}
-use mathlib.Core.Path.{ap, sym, _∙_}
+use mathlib.Core.Path.{_≡_, ap, sym, _∙_}
 use native.Mathlib.Omega.{arith}
 use lib.Dec.{lit<}
 use borrow.Author.Tests.{not-true, not-false}
@@ -8,6 +8,7 @@ use Rattle.session.specs.Table.{read}
 use Rattle.rules.specs.Formula.{holds}
 use Rattle.rules.specs.FormulaLaws.{passed, failed}
 use Rattle.rules.specs.Sound.{sound}
+use Rattle.record.specs.RecordReading.{recordAt}
 use Rattle.record.specs.RecordRoundTrip.{record-refusals}
 use Rattle.sheet.specs.Run.{hasRoom}
 use Rattle.sheet.specs.Going.{linesOf, goes-full, goes-unsound, goes-refused, goes-on}
@@ -25,6 +26,14 @@ is-sound : (c : tie.Else2)
     → (let a = c .before .before .before .before .before .before .before .before .before .args in
     holds (sound (read (a .memory .now))))
 is-sound c = passed _ (sym (c .before .is-admitted .ensures) ∙ not-false _ (c .if2 .left))
+
+-- what was read is the record by the sheet's own edition
+says : (c : tie.After-read-record)
+    → (let a = c .before .before .before .before .before .before .before .before .before .before .args in
+    c .read-record .result ≡ recordAt (a .sheet .now) (a .at))
+says c =
+    let entry = c .before .before .before .before .before .before .before .before .before .before in
+    rw (entry .pre .4) at (c .read-record .ensures)
 
 add-number : tie.Need-add-number
 add-number c = search needs
@@ -72,9 +81,8 @@ read-record-requires c κs = search needs
 put-answer-requires-2 : tie.Need-put-answer-requires-2
 put-answer-requires-2 c κs =
     let at-if1 = c .before .before .before .before .before .before in
-    let a = at-if1 .before .before .before .before .before .before .args in
     let small : c .before .before .read-record .result .refused ≤ 6 =
-    rw (c .before .before .read-record .ensures) (record-refusals (a .sheet .now) (a .at)) in (
+    rw (c .before .before .read-record .ensures) (record-refusals _ _ _) in (
       room at-if1,
       omega (arith, small),
       lit< tt,
@@ -94,7 +102,7 @@ returns-3 c =
     let entry = at-if1 .before .before .before .before .before .before in
     let a = entry .args in
     let p = entry .pre in
-    let e = at-if3 .before .read-record .ensures in
+    let e = says (at-if3 .before) in
     rw (e) (goes-refused (a .sheet .now) (a .at) (a .k) (a .memory .now) (a .lines .now) (a .used) (p .2)
     (room at-if1) _ _ (is-sound at-if2)
     (λ z. at-if3 .if3 .taken (ap (λ r. r .refused) e ∙ z)) (rw e at (c .before .before .put-answer2 .ensures)))
@@ -121,7 +129,7 @@ returns-4 c =
     let entry = at-if1 .before .before .before .before .before .before in
     let a = entry .args in
     let p = entry .pre in
-    let e = at-if3 .before .read-record .ensures in
+    let e = says (at-if3 .before) in
     let w = at-answer-record .answer-record .ensures in
     rw (e) (goes-on (a .sheet .now) (a .at) (a .k) (a .memory .now) (a .lines .now) (a .used) (p .2)
     (room at-if1) _ _ (is-sound at-if2) _

@@ -9,20 +9,30 @@ use Rattle.sheet.proofs.run_records.Statement.{statement}
 use Rattle.sheet.proofs.run_records.Tie as tie
 
 abbrev Inv-loop : tie.InvT-loop
-Inv-loop sheet first done memory₀ lines₀ used sure at₀ behind₀ k₀ memory lines at behind k =
+Inv-loop sheet first done memory₀ lines₀ used sure edition at₀ behind₀ k₀ memory lines at behind k =
     Running sheet first done sure memory₀ lines₀ used memory lines at k behind × (length lines ≡ length lines₀)
 
 abbrev μ-loop : tie.MeasureT-loop
-μ-loop sheet first done memory₀ lines₀ used sure at₀ behind₀ k₀ memory lines at behind k = length sheet - at
+μ-loop sheet first done memory₀ lines₀ used sure edition at₀ behind₀ k₀ memory lines at behind k = length sheet - at
+
+edition-of-requires : tie.Need-edition-of-requires Inv-loop μ-loop
+edition-of-requires c κs = search needs
 
 loop-holds : tie.Need-loop-holds Inv-loop μ-loop
-loop-holds c = (running-first _ _ _ _ _ _ _ (c .before .before .before .pre .1) (c .before .before .before .pre .2), refl)
+loop-holds c =
+    let p = c .before .before .before .before .pre in
+    (running-first _ _ _ _ _ _ _ (p .1) (p .2), refl)
 
 run-record-requires : tie.Need-run-record-requires Inv-loop μ-loop
 run-record-requires c κs =
-    let entry = c .before .before .before .before .before .before .before in
-    let i = c .before .before .before .loop .inv .0 in
-    (omega (arith, i .same-length, entry .pre .0), i .keeps, c .before .before .loop-test .taken, omega (arith, i .count))
+    let entry = c .before .before .before .before .before .before .before .before in
+    let i = c .before .before .before .loop .inv .0 in (
+      omega (arith, i .same-length, entry .pre .0),
+      i .keeps,
+      c .before .before .loop-test .taken,
+      omega (arith, i .count),
+      c .before .before .before .before .edition-of .ensures,
+    )
 
 enum-known-next : tie.Need-enum-known-next Inv-loop μ-loop
 enum-known-next c = search needs
@@ -46,14 +56,14 @@ loop-again c =
     let l = at-loop-test .before .loop in
     let o = rw (c .before .next .given .1) at (at-run-record .run-record .ensures) in (
       running-on _ _ _ _ _ _ _ _ _ _ _ _ (l .inv .0) (at-loop-test .loop-test .taken) _ _ _ _ o,
-      at-run-record .run-record .kept .1 .1 .1 .1 .0 ∙ l .inv .1,
+      at-run-record .run-record .kept .1 .1 .1 .1 .1 .0 ∙ l .inv .1,
     )
 
 enum-known-last : tie.Need-enum-known-last Inv-loop μ-loop
 enum-known-last c = search needs
 
-add-t22 : tie.Need-add-t22 Inv-loop μ-loop
-add-t22 c =
+add-t23 : tie.Need-add-t23 Inv-loop μ-loop
+add-t23 c =
     let at-loop = c .before .before .before .before .before .before .before .before .before .before .before in
     omega (arith, at-loop .loop .inv .0 .count)
 
@@ -67,7 +77,7 @@ same-length-2 : tie.Need-same-length-2 Inv-loop μ-loop
 same-length-2 c =
     let at-run-record = c .before .before .before .before .before .before .before in
     let at-loop = at-run-record .before .before .before .before in
-    at-run-record .run-record .kept .1 .1 .1 .1 .0 ∙ at-loop .loop .inv .1
+    at-run-record .run-record .kept .1 .1 .1 .1 .1 .0 ∙ at-loop .loop .inv .1
 
 returns : tie.Need-returns Inv-loop μ-loop
 returns c =
@@ -91,6 +101,7 @@ run-records-spec =
     (tie.spec
     Inv-loop
     μ-loop
+    edition-of-requires
     loop-holds
     run-record-requires
     enum-known-next
@@ -98,7 +109,7 @@ run-records-spec =
     loop-less
     loop-again
     enum-known-last
-    add-t22
+    add-t23
     same-length
     same-length-2
     returns

@@ -11,19 +11,27 @@ use Rattle.sheet_counts.proofs.count_records.Statement.{statement}
 use Rattle.sheet_counts.proofs.count_records.Tie as tie
 
 abbrev Inv-loop : tie.InvT-loop
-Inv-loop sheet first memory₀ at₀ records₀ refused₀ starts₀ memory at records refused starts =
+Inv-loop sheet first memory₀ edition at₀ records₀ refused₀ starts₀ memory at records refused starts =
     Running sheet first memory₀ memory at records refused starts
 
 abbrev μ-loop : tie.MeasureT-loop
-μ-loop sheet first memory₀ at₀ records₀ refused₀ starts₀ memory at records refused starts = length sheet - at
+μ-loop sheet first memory₀ edition at₀ records₀ refused₀ starts₀ memory at records refused starts = length sheet - at
+
+edition-of-requires : tie.Need-edition-of-requires Inv-loop μ-loop
+edition-of-requires c κs = search needs
 
 loop-holds : tie.Need-loop-holds Inv-loop μ-loop
-loop-holds c = running-first _ _ _ (c .before .before .pre .1)
+loop-holds c = running-first _ _ _ (c .before .before .before .pre .1)
 
 count-record-requires : tie.Need-count-record-requires Inv-loop μ-loop
 count-record-requires c κs =
     let i = c .before .before .loop .inv in
-    (omega (arith, i .same-length, c .before .before .before .before .before .pre .0), i .keeps, c .before .loop-test .taken)
+    let at-edition-of = c .before .before .before in (
+      omega (arith, i .same-length, at-edition-of .before .before .before .pre .0),
+      i .keeps,
+      c .before .loop-test .taken,
+      at-edition-of .edition-of .ensures,
+    )
 
 enum-known-next : tie.Need-enum-known-next Inv-loop μ-loop
 enum-known-next c = search needs
@@ -80,7 +88,7 @@ with-dropped-requires : tie.Need-with-dropped-requires Inv-loop μ-loop
 with-dropped-requires c κs =
     let at-count-record = c .before .before .before .before .before in
     let at-loop = at-count-record .before .before .before in
-    let entry = at-loop .before .before .before in
+    let entry = at-loop .before .before .before .before in
     omega (arith, at-loop .loop .inv .same-length, at-count-record .count-record .ensures .same-length, entry .pre .0)
 
 same-length : tie.Need-same-length Inv-loop μ-loop
@@ -99,7 +107,7 @@ returns c =
 
 with-dropped-requires-2 : tie.Need-with-dropped-requires-2 Inv-loop μ-loop
 with-dropped-requires-2 c κs =
-    omega (arith, c .before .before .loop .inv .same-length, c .before .before .before .before .before .pre .0)
+    omega (arith, c .before .before .loop .inv .same-length, c .before .before .before .before .before .before .pre .0)
 
 same-length-2 : tie.Need-same-length-2 Inv-loop μ-loop
 same-length-2 c = c .before .before .before .loop .inv .same-length
@@ -115,6 +123,7 @@ count-records-spec =
     (tie.spec
     Inv-loop
     μ-loop
+    edition-of-requires
     loop-holds
     count-record-requires
     enum-known-next

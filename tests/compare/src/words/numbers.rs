@@ -23,12 +23,13 @@ pub const EVENT_STATES: [(u64, EventState); 4] = [
     (4, EventState::Destroyed { had_fired: true }),
 ];
 
-pub const EVENT_TYPES: [(u64, EventType); 5] = [
+pub const EVENT_TYPES: [(u64, EventType); 6] = [
     (1, EventType::Once),
     (2, EventType::Idempotent),
     (3, EventType::Sticky),
     (4, EventType::Latch),
     (5, EventType::Output),
+    (6, EventType::Counted),
 ];
 
 pub const BLOCK_STATES: [(u64, BlockState); 3] =

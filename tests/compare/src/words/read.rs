@@ -68,6 +68,7 @@ fn read_event(get: &impl Fn(Field, usize) -> u64, handle: usize) -> Option<Event
         state: choice(get(Field::EventState, handle), &EVENT_STATES)?,
         payload: get(Field::EventPayload, handle),
         tally: if kind == EventType::Latch { tally - EVEN_TALLY } else { tally },
+        count: get(Field::EventCount, handle),
     })
 }
 

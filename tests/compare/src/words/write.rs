@@ -49,6 +49,7 @@ fn write_object(put: &mut impl FnMut(Field, usize, u64), handle: usize, object: 
             put(Field::EventType, handle, number_of(event.kind, &EVENT_TYPES));
             put(Field::EventPayload, handle, event.payload);
             put(Field::EventTally, handle, tally_number(event));
+            put(Field::EventCount, handle, event.count);
         }
         Object::Block(block) => {
             put(Field::Kind, handle, 4);

@@ -1,7 +1,7 @@
 //! Checks 7 to 11: what the fields by themselves must be.
 
 use crate::call::Call;
-use crate::object::{BlockState, EventType, Object, TaskState};
+use crate::object::{BlockState, Object, TaskState};
 use crate::session::Session;
 
 /// "7. A field with a range in its brackets is outside it."
@@ -12,6 +12,7 @@ pub fn out_of_range(_: &Session, call: &Call) -> bool {
         Call::Event { kind, .. } => !(1..=4).contains(&kind),
         Call::Block { hold, .. } => hold > 1,
         Call::Dependence { mode, .. } => !(1..=4).contains(&mode),
+        Call::Counted { count, .. } => !(1..=16).contains(&count),
         _ => false,
     }
 }
@@ -28,13 +29,13 @@ enum Admits {
     Template,
     Task,
     Block,
-    /// Types 1 to 4.
+    /// Types 1 to 4, and counted ones.
     Event,
     /// "Source: 0, a block or an event."
     Source,
-    /// "Destination: a task or an event of type 1 to 4."
+    /// "Destination: a task or an event of type 1 to 4.", or a counted one.
     Destination,
-    /// "template, task, event of type 1 to 4, or block"
+    /// "template, task, event of type 1 to 4, or block", or a counted one.
     Destroyable,
 }
 
@@ -56,7 +57,8 @@ fn or_null(handle: u64, admits: Admits) -> Option<Named> {
 /// The handle fields, in order, two at most; a link number is no handle.
 fn named(call: &Call) -> [Option<Named>; 2] {
     match *call {
-        Call::Template { .. } | Call::Event { .. } | Call::Block { .. } | Call::Deliver { .. } => [None, None],
+        Call::Template { .. } | Call::Event { .. } | Call::Block { .. } | Call::Counted { .. } => [None, None],
+        Call::Deliver { .. } => [None, None],
         Call::Task { template, .. } => [needed(template, Admits::Template), None],
         Call::Dependence { source, destination, .. } => {
             [or_null(source, Admits::Source), needed(destination, Admits::Destination)]
@@ -79,7 +81,7 @@ pub fn never_made(session: &Session, call: &Call) -> bool {
 }
 
 fn admitted(admits: Admits, object: &Object) -> bool {
-    let settable = matches!(object, Object::Event(event) if event.kind != EventType::Output);
+    let settable = matches!(object, Object::Event(event) if event.kind.is_admitted());
     match admits {
         Admits::Template => matches!(object, Object::Template(_)),
         Admits::Task => matches!(object, Object::Task(_)),

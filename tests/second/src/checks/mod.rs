@@ -1,4 +1,4 @@
-//! "Why an operation is turned down": the checks in the order of their numbers.
+//! "Why an operation is turned down": the checks in their order, which is that of their numbers but for 24.
 //!
 //! A check may take for granted that the ones before it passed; where they did not, its answer is not asked for.
 
@@ -13,8 +13,8 @@ use crate::session::Session;
 
 type Fails = fn(&Session, &Call) -> bool;
 
-/// "Each check covers all fields before the next check".
-const CHECKS: [(u32, Fails); 15] = [
+/// "Each check covers all fields before the next check"; 24 is "checked after 14".
+const CHECKS: [(u32, Fails); 16] = [
     (7, fields::out_of_range),
     (8, fields::caller_not_running),
     (9, fields::never_made),
@@ -23,6 +23,7 @@ const CHECKS: [(u32, Fails); 15] = [
     (12, slots::no_such_slot_or_count),
     (13, slots::already_claimed),
     (14, slots::sticky_has_fired),
+    (24, room::count_used_up),
     (15, states::not_held),
     (16, states::not_in_state),
     (17, states::block_lost),

@@ -1,7 +1,7 @@
 //! Checks 12, 13, 14 and 19: counts, slots and what a satisfaction meets.
 
 use crate::call::Call;
-use crate::object::{Event, EventState, EventType, Object, UNKNOWN};
+use crate::object::{Event, Object, UNKNOWN};
 use crate::session::Session;
 
 /// "12. The destination has no such slot, or the count is not admitted."
@@ -50,10 +50,9 @@ fn satisfied_now<'a>(session: &'a Session, call: &Call) -> Option<(&'a Event, u6
     }
 }
 
-/// "14. The sticky event has fired."
+/// "14. The sticky event has fired." So has a counted one: "a second call gives 14".
 pub fn sticky_has_fired(session: &Session, call: &Call) -> bool {
-    satisfied_now(session, call)
-        .is_some_and(|(event, _)| event.kind == EventType::Sticky && event.state == EventState::Fired)
+    satisfied_now(session, call).is_some_and(|(event, _)| event.has_taken_one())
 }
 
 /// "19. The latch would leave its range."

@@ -25,7 +25,7 @@ impl Session {
     }
 
     /// "Destroying an open event cuts its open links."
-    fn destroy_event(&mut self, handle: u64) {
+    pub(super) fn destroy_event(&mut self, handle: u64) {
         if let Some(event) = self.event_mut(handle) {
             event.state = EventState::Destroyed { had_fired: event.has_fired() };
             self.turn_open_links(handle, LinkState::Cut);

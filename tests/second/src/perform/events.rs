@@ -54,7 +54,7 @@ impl Session {
 
     /// "Deliver satisfies the destination with the source's payload; the link is then delivered. If the destination is
     /// gone, or a satisfied sticky, or a latch that would leave its range, nothing else happens and the session's
-    /// dropped count rises by 1."
+    /// dropped count rises by 1." A dropped one counts for a counted source too, as the link is delivered.
     pub(super) fn deliver(&mut self, number: u64) {
         let Some(link) = self.link_mut(number) else { return };
         link.state = LinkState::Delivered;
@@ -65,15 +65,22 @@ impl Session {
         } else {
             self.satisfy(destination, slot, payload);
         }
+        self.go_if_served(source);
+    }
+
+    /// A counted event "is destroyed when its count of links has been delivered". It has fired, and the other fields of
+    /// its record stay.
+    fn go_if_served(&mut self, handle: u64) {
+        let Some(event) = self.event(handle) else { return };
+        if event.kind == EventType::Counted && self.delivered_from(handle) == event.count {
+            self.destroy_event(handle);
+        }
     }
 
     fn would_drop(&self, destination: u64, slot: u64) -> bool {
         match self.object(destination) {
             Some(Object::Task(task)) => !task.is_live(),
-            Some(Object::Event(event)) => {
-                let satisfied_sticky = event.kind == EventType::Sticky && event.state == EventState::Fired;
-                event.is_gone() || satisfied_sticky || event.leaves_range(slot)
-            }
+            Some(Object::Event(event)) => event.is_gone() || event.has_taken_one() || event.leaves_range(slot),
             _ => true,
         }
     }

@@ -22,6 +22,7 @@ impl Session {
             Call::Event { kind, .. } => {
                 EventType::try_from(kind).map_or(0, |kind| self.add(Object::Event(Event::open(kind))))
             }
+            Call::Counted { count, .. } => self.add(Object::Event(Event::counted(count))),
             Call::Block { caller, hold } => self.make_block(caller, hold == 1),
             Call::Dependence { source, destination, slot, mode, .. } => self.depend(source, destination, slot, mode),
             _ => {

@@ -25,6 +25,7 @@ pub fn event_is_sound(session: &Session, handle: u64, event: &Event) -> bool {
     payload_is_sound(session, event.payload)
         && (event.has_fired() || event.payload == 0)
         && tally_is_sound(event)
+        && count_is_sound(session, handle, event)
         && (event.kind != EventType::Output || follows())
 }
 
@@ -36,6 +37,18 @@ fn tally_is_sound(event: &Event) -> bool {
     } else {
         (-LATCH_RANGE..=LATCH_RANGE).contains(&event.tally)
     }
+}
+
+/// "A sound session has no counted event with more links than its count, and one with that many delivered is
+/// destroyed." The count is 1 to 16; other types have none.
+fn count_is_sound(session: &Session, handle: u64, event: &Event) -> bool {
+    if event.kind != EventType::Counted {
+        return event.count == 0;
+    }
+    let destroyed = matches!(event.state, EventState::Destroyed { .. });
+    (1..=16).contains(&event.count)
+        && session.links_from(handle) <= event.count
+        && (session.delivered_from(handle) < event.count || destroyed)
 }
 
 /// "doomed blocks are held, destroyed ones not"; a creator is a task, and block 1 alone has none (reading 15).

@@ -1,13 +1,13 @@
 //! Drawing the fields of a call so that it may well be accepted.
 
 use super::{Reach, Steer, WEIGHTS};
-use crate::link::LinkState;
+use crate::link::{Link, LinkState};
 use crate::number::MAX_NUMBER;
 use crate::object::*;
 use crate::operation::{field_count, Operation};
 use crate::session::{Session, MAX_OBJECTS};
 
-type Wanted = fn(&Session, u64, &Object) -> bool;
+pub(super) type Wanted = fn(&Session, u64, &Object) -> bool;
 
 fn is_template(_: &Session, _: u64, object: &Object) -> bool {
     matches!(object, Object::Template(template) if !template.destroyed)
@@ -23,6 +23,10 @@ fn is_event(_: &Session, _: u64, object: &Object) -> bool {
 
 fn is_full_latch(_: &Session, _: u64, object: &Object) -> bool {
     matches!(object, Object::Event(event) if !event.is_gone() && event.tally.abs() == LATCH_RANGE)
+}
+
+fn is_ready(_: &Session, link: &Link) -> bool {
+    link.state == LinkState::Ready
 }
 
 /// Waits for a claim of some slot.
@@ -66,8 +70,12 @@ fn is_any(_: &Session, _: u64, _: &Object) -> bool {
 
 impl Steer {
     /// A call of a code picked by weight. Makers of objects mostly wait while the list is ahead of its share of the
-    /// 512, ends and releases while few tasks run or hold: conflicts come up only where several do at once.
+    /// 512, ends and releases while few tasks run or hold: conflicts come up only where several do at once. In edition 2
+    /// one call of four is about a counted event.
     pub(super) fn draw_any(&mut self) -> Operation {
+        if self.has_counted() && self.random.percent(25) {
+            return self.draw_counted();
+        }
         let ahead = self.is_ahead();
         let (few_run, few_hold) = (self.running() < 6, self.session.holds.len() < 8);
         let mut code = self.draw_code();
@@ -103,15 +111,16 @@ impl Steer {
             6 => vec![self.caller(), self.pick_awaited(), self.block_or_null(), self.random.below(2)],
             7 => self.draw_release(),
             8 => self.draw_destroy(),
-            9 => vec![self.pick_link()],
+            9 => vec![self.pick_link_where(is_ready)],
             10 => vec![self.pick(is_resolved)],
             11 => vec![self.pick(is_granted)],
+            13 => self.draw_maker(),
             _ => vec![self.finish_or_running(), self.block_or_null()],
         };
         Operation::new(code, &fields)
     }
 
-    fn caller(&mut self) -> u64 {
+    pub(super) fn caller(&mut self) -> u64 {
         self.pick(is_running)
     }
 
@@ -164,13 +173,13 @@ impl Steer {
         }
     }
 
-    fn pick_slot(&mut self) -> (u64, u64) {
+    pub(super) fn pick_slot(&mut self) -> (u64, u64) {
         let task = self.pick(is_claimable);
         let slots = self.session.task(task).map_or(1, |task| task.slots.len() as u64);
         (task, self.random.below(slots.max(1)))
     }
 
-    fn pick_event_slot(&mut self) -> (u64, u64) {
+    pub(super) fn pick_event_slot(&mut self) -> (u64, u64) {
         (self.pick(is_event), self.random.below(2))
     }
 
@@ -206,7 +215,7 @@ impl Steer {
     }
 
     /// Often a block that a task holds already, or the oldest live one, so that grants meet conflicts.
-    fn block_or_null(&mut self) -> u64 {
+    pub(super) fn block_or_null(&mut self) -> u64 {
         match self.random.below(8) {
             0 => 0,
             1 | 2 => self.pick(is_held_block),
@@ -216,24 +225,24 @@ impl Steer {
     }
 
     /// The first object wanted from a random one on; 0 if there is none.
-    fn pick(&mut self, wanted: Wanted) -> u64 {
+    pub(super) fn pick(&mut self, wanted: Wanted) -> u64 {
         let first = self.random.below(self.session.object_count());
         self.pick_from(first, wanted)
     }
 
-    fn pick_from(&self, first: u64, wanted: Wanted) -> u64 {
+    pub(super) fn pick_from(&self, first: u64, wanted: Wanted) -> u64 {
         let count = self.session.object_count();
         let fits =
             |handle: &u64| self.session.object(*handle).is_some_and(|object| wanted(&self.session, *handle, object));
         (0..count).map(|step| (first + step) % count + 1).find(fits).unwrap_or(0)
     }
 
-    /// A ready link from a random one on; 0 if there is none.
-    fn pick_link(&mut self) -> u64 {
+    /// The first link wanted from a random one on; 0 if there is none.
+    pub(super) fn pick_link_where(&mut self, wanted: fn(&Session, &Link) -> bool) -> u64 {
         let count = self.session.link_count().max(1);
         let first = self.random.below(count);
-        let ready = |number: &u64| self.session.link(*number).is_some_and(|link| link.state == LinkState::Ready);
-        (0..count).map(|step| (first + step) % count + 1).find(ready).unwrap_or(0)
+        let fits = |number: &u64| self.session.link(*number).is_some_and(|link| wanted(&self.session, link));
+        (0..count).map(|step| (first + step) % count + 1).find(fits).unwrap_or(0)
     }
 
     /// Another number in one field.

@@ -29,15 +29,27 @@ impl Steer {
             Goal::Objects if self.session.object_count() >= MAX_OBJECTS => return None,
             Goal::Links if self.session.link_count() >= MAX_LINKS => return None,
             Goal::Objects => {
-                let code = 1 + self.random.below(4);
+                let code = self.making_code();
                 self.draw(code)
             }
-            Goal::Links if self.session.object_count() < 24 => self.draw(3),
+            Goal::Links if self.session.object_count() < 24 => {
+                let code = if self.has_counted() && self.random.percent(30) { 13 } else { 3 };
+                self.draw(code)
+            }
+            Goal::Links if self.has_counted() && self.session.link_count() >= MAX_LINKS - 64 => self.draw_last_use(),
             Goal::Links => self.draw_link(),
             Goal::Families => self.family()?,
             Goal::Latch { slot } => self.climb(slot)?,
         };
         (self.session.check(&operation) == 0 && self.keeps_going(&operation)).then_some(operation)
+    }
+
+    /// An operation that makes objects.
+    fn making_code(&mut self) -> u64 {
+        if self.has_counted() && self.random.percent(30) {
+            return 13;
+        }
+        1 + self.random.below(4)
     }
 
     /// Tasks without slots are made, run, ended and destroyed without waiting for anything.

@@ -1,8 +1,10 @@
 //! Random calls, steered by a session of their own so that most are accepted and every refusal turns up.
 
+mod counted;
 mod draw;
 mod goal;
 
+use crate::edition::Edition;
 use crate::object::TaskState;
 use crate::operation::{Answer, Operation};
 use crate::random::Random;
@@ -22,17 +24,21 @@ pub enum Reach {
 pub struct Steer {
     pub session: Session,
     random: Random,
+    edition: Edition,
     reach: Reach,
     goal: Goal,
     planned: u64,
     done: u64,
 }
 
-/// How often the codes 1 to 12 are tried, of 100.
+/// How often the codes 1 to 12 are tried, of 100; in edition 2 these are three calls of four.
 const WEIGHTS: [u64; 12] = [3, 10, 9, 5, 20, 10, 4, 3, 13, 9, 9, 5];
 
 /// The refusals that a known code can meet.
 const REFUSALS: [u32; 15] = [7, 8, 9, 10, 11, 12, 13, 14, 15, 16, 17, 18, 19, 20, 21];
+
+/// The same in edition 2, where 24 needs a counted event that has its count of links: it is tried more often.
+const REFUSALS_2: [u32; 17] = [7, 8, 9, 10, 11, 12, 13, 14, 15, 16, 17, 18, 19, 20, 21, 24, 24];
 
 /// Calls that a list needs for a latch to come to an end of its range, with some to spare.
 pub const LATCH_CALLS: u64 = 34_500;
@@ -53,7 +59,13 @@ pub fn random_list(seed: u64, calls: u64) -> Steer {
 impl Steer {
     /// A list planned to have so many calls, from a fresh session.
     pub fn new(random: Random, reach: Reach, goal: Goal, planned: u64) -> Steer {
-        Steer { session: Session::fresh(), random, reach, goal, planned: planned.max(1), done: 0 }
+        let (session, edition) = (Session::fresh(), Edition::First);
+        Steer { session, random, edition, reach, goal, planned: planned.max(1), done: 0 }
+    }
+
+    /// The same with the codes of that edition; a list has those of edition 1 if nothing is said.
+    pub fn in_edition(self, edition: Edition) -> Steer {
+        Steer { edition, ..self }
     }
 
     /// The next call, already carried out here, with its answer.
@@ -93,7 +105,7 @@ impl Steer {
 
     /// A call that meets a refusal picked beforehand, if one turns up.
     fn refused(&mut self) -> Operation {
-        let wanted = self.random.among(&REFUSALS);
+        let wanted = self.random.among(self.refusals());
         let mut operation = self.draw_any();
         for _ in 0..60 {
             if self.session.check(&operation) == wanted {
@@ -107,8 +119,20 @@ impl Steer {
         self.or_harmless(operation)
     }
 
+    fn refusals(&self) -> &'static [u32] {
+        match self.edition {
+            Edition::First => &REFUSALS,
+            Edition::Second => &REFUSALS_2,
+        }
+    }
+
     /// Refusals that few codes can meet are looked for among those half of the time.
     fn draw_towards(&mut self, refusal: u32) -> Operation {
+        if self.has_counted() && self.random.percent(40) {
+            if let Some(operation) = self.draw_counted_towards(refusal) {
+                return operation;
+            }
+        }
         let code = match refusal {
             13 => 5,
             14 => self.random.among(&[5, 6]),
@@ -130,8 +154,16 @@ impl Steer {
     fn nonsense(&mut self) -> Operation {
         let mut fields = [0; 5];
         fields.iter_mut().for_each(|field| *field = self.odd_number());
-        let code = if self.random.percent(50) { self.odd_number() } else { 1 + self.random.below(12) };
+        let code = if self.random.percent(50) { self.odd_number() } else { 1 + self.random.below(self.codes()) };
         self.or_harmless(Operation { code, fields })
+    }
+
+    /// Up to this one the codes are tried with any fields: in edition 2 the first unknown one too.
+    fn codes(&self) -> u64 {
+        match self.edition {
+            Edition::First => 12,
+            Edition::Second => 14,
+        }
     }
 
     /// The operation, unless it would leave no task running with much of the list to come: then a null release.

@@ -38,7 +38,7 @@ returns c =
         ← next .next-object .ensures,
         ← next .before .before .task-slots .ensures,
       )
-          (wrote-next (λ r. newEvent r (next .next-object .result + 1) output) (task .new-task .ensures)
+          (wrote-next (λ r. newEvent r (next .next-object .result + 1) output 0) (task .new-task .ensures)
           (c .before .before .new-event .ensures));
       answer = next .next-object .ensures;
     }

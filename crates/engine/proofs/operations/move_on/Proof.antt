@@ -9,8 +9,8 @@ use Rattle.engine.proofs.operations.move_on.Statement.{statement}
 use Rattle.engine.proofs.operations.move_on.Tie as tie
 
 -- what the match leaves
-no-move : (n : ℕ) → 9 ≤ n → (n ≡ 9 → ⊥) → (n ≡ 10 → ⊥) → (n ≡ 11 → ⊥) → (n ≡ 12 → ⊥) → lastCode < n
-no-move n l a b c d = omega arith
+no-move : (n : ℕ) → 9 ≤ n → (n ≡ 9 → ⊥) → (n ≡ 10 → ⊥) → (n ≡ 11 → ⊥) → (n ≡ 12 → ⊥) → (n ≡ 13 → ⊥) → lastCode < n
+no-move n l a b c d e = omega arith
 
 array-read-deliver : tie.Need-array-read-deliver
 array-read-deliver c = search needs
@@ -38,6 +38,15 @@ array-read-end-2 c = search needs
 
 end-requires : tie.Need-end-requires
 end-requires c κs = search needs
+
+array-read-counted : tie.Need-array-read-counted
+array-read-counted c = search needs
+
+array-read-counted-2 : tie.Need-array-read-counted-2
+array-read-counted-2 c = search needs
+
+counted-requires : tie.Need-counted-requires
+counted-requires c κs = search needs
 
 same-length : tie.Need-same-length
 same-length c = search needs
@@ -71,12 +80,20 @@ unfolding rules replyBy
 returns-4 c =
     rw (c .before .before .before .before .match .keys4) (c .before .before .end .ensures)
 
+same-length-5 : tie.Need-same-length-5
+same-length-5 c = search needs
+
 returns-5 : tie.Need-returns-5
+unfolding rules replyBy
 returns-5 c =
+    rw (c .before .before .before .before .match .keys5) (c .before .before .counted .ensures)
+
+returns-6 : tie.Need-returns-6
+returns-6 c =
     let a = c .before .before .args in
     let r = c .match .rest in
     played-unknown (a .s .now) (a .code) (a .t3)
-    (no-move (a .code) (c .before .before .pre .2) (r .0 .0 .0 .1) (r .0 .0 .1) (r .0 .1) (r .1))
+    (no-move (a .code) (c .before .before .pre .2) (r .0 .0 .0 .0 .1) (r .0 .0 .0 .1) (r .0 .0 .1) (r .0 .1) (r .1))
 
 pub move-on-spec : {M : Type 1} → statement M
 move-on-spec =
@@ -91,6 +108,9 @@ move-on-spec =
     array-read-end
     array-read-end-2
     end-requires
+    array-read-counted
+    array-read-counted-2
+    counted-requires
     same-length
     returns
     same-length-2
@@ -99,4 +119,6 @@ move-on-spec =
     returns-3
     same-length-4
     returns-4
-    returns-5)
+    same-length-5
+    returns-5
+    returns-6)

@@ -1,4 +1,4 @@
--- `sound::objects::event_part` meets its contract: five numbers are read, callees judge type and payload (`simp` with Bools).
+-- `sound::objects::event_part` meets its contract: six numbers are read, callees judge count, type and payload (`simp` with Bools).
 use borrow.Author.Needs.{needs}
 use Rattle.rules.specs.Bools.{test-not, test-both, test-either, test-eq, test-le}
 use Rattle.sound.proofs.objects.event_part.Statement.{statement}
@@ -19,6 +19,12 @@ of-object-requires-4 c κs = search needs
 of-object-requires-5 : tie.Need-of-object-requires-5
 of-object-requires-5 c κs = search needs
 
+of-object-requires-6 : tie.Need-of-object-requires-6
+of-object-requires-6 c κs = search needs
+
+is-link-count-requires : tie.Need-is-link-count-requires
+is-link-count-requires c κs = search needs
+
 is-event-type-requires : tie.Need-is-event-type-requires
 is-event-type-requires c κs = search needs
 
@@ -27,14 +33,16 @@ is-payload-requires c κs = search needs
 
 returns : tie.Need-returns
 returns c =
-    let f = c .before .before in
-    let type = f .before .before .before in
+    let f = c .before .before .before in
+    let type = f .before .before .before .before in
     simp (
       c .is-payload .ensures,
       c .before .is-event-type .ensures,
-      f .of-object5 .ensures,
-      f .before .of-object4 .ensures,
-      f .before .before .of-object3 .ensures,
+      c .before .before .is-link-count .ensures,
+      f .of-object6 .ensures,
+      f .before .of-object5 .ensures,
+      f .before .before .of-object4 .ensures,
+      f .before .before .before .of-object3 .ensures,
       type .of-object2 .ensures,
       type .before .of-object .ensures,
       test-not,
@@ -53,6 +61,8 @@ event-part-spec =
     of-object-requires-3
     of-object-requires-4
     of-object-requires-5
+    of-object-requires-6
+    is-link-count-requires
     is-event-type-requires
     is-payload-requires
     returns)

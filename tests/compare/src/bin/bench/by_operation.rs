@@ -9,7 +9,7 @@ use crate::{median, BATCHES, CALLS};
 
 const ROUNDS: usize = 15;
 
-/// Codes 1 to 12.
+/// Codes 1 to 12; operation 13 has a table with what else is about counted events.
 const CODES: usize = 12;
 
 const NAMES: [&str; CODES] = [
@@ -43,7 +43,7 @@ pub fn print_table(sizes: [(u64, u64); 2]) {
     }
 }
 
-fn cells(less: Option<f64>, more: Option<f64>) -> String {
+pub fn cells(less: Option<f64>, more: Option<f64>) -> String {
     let shown = |cost: Option<f64>| cost.map_or("-".to_string(), |cost| format!("{cost:.0}"));
     let times = less.zip(more).map_or("-".to_string(), |(less, more)| format!("{:.1}", more / less));
     format!("{} | {} | {times}", shown(less), shown(more))
@@ -66,7 +66,7 @@ fn measure(grown: &Grown) -> Costs {
 }
 
 /// The answers, and for both engines the median time of each call.
-fn batch_costs(grown: &Grown, calls: &[Operation]) -> (Vec<Answer>, [Vec<Duration>; 2]) {
+pub fn batch_costs(grown: &Grown, calls: &[Operation]) -> (Vec<Answer>, [Vec<Duration>; 2]) {
     let whole = grown.memory();
     let mut memory = whole.clone();
     let mut times = [vec![vec![]; calls.len()], vec![vec![]; calls.len()]];

@@ -2,15 +2,17 @@
 //! and a sheet in a class beside the same sheet alone. Then reports of learners with one turn and with ten, also by the
 //! class programs.
 
-use std::fs;
 use std::path::Path;
 use std::time::{Duration, Instant};
+use std::{fs, iter};
 
 use compare::layout::WORDS;
 use compare::reports::{class_of, report, turns_of};
 use compare::Memory;
 use second::random::Random;
+use second::record::read_first;
 use second::sheets::{random_sheet, short_sheet};
+use second::Edition;
 
 use crate::median;
 use crate::processes::{self, programs};
@@ -45,8 +47,7 @@ pub fn print_table() {
          | in a class, ns/sheet | alone, ns/sheet |"
     );
     println!("|---|---|---|---|---|---|---|---|---|");
-    let mut random = Random::new(SEED);
-    let short: Vec<Vec<u8>> = (0..1_000).map(|_| short_sheet(&mut random)).collect();
+    let short = short_sheets(1_000);
     let long: Vec<Vec<u8>> = (0..50).map(|turn| random_sheet(SEED, turn * THEMES + LONG)).collect();
     print_row("short", &short, LINES);
     print_row("the listing", &vec![listing(); 1_000], LINES);
@@ -58,6 +59,13 @@ pub fn print_table() {
         ("the listing", &vec![listing(); LEARNERS * TURNS]),
         ("long", &long),
     ]);
+}
+
+/// So many short sheets, none of them of edition 2: a library from before E4 can be measured on them too.
+fn short_sheets(count: usize) -> Vec<Vec<u8>> {
+    let mut random = Random::new(SEED);
+    let sheets = iter::repeat_with(|| short_sheet(&mut random));
+    sheets.filter(|sheet| !matches!(read_first(sheet), Ok((Edition::Second, _)))).take(count).collect()
 }
 
 /// The class file of learners with one turn each, the last of theirs, or with all of them.

@@ -1,5 +1,6 @@
 mod by_operation;
 mod classes;
+mod counted;
 mod passes;
 mod processes;
 mod sheets;
@@ -60,6 +61,8 @@ fn main() {
     passes::print(Grown::to(11, 512, 2_048).memory().words(), figures[4].nanos[0]);
     println!();
     by_operation::print_table([(64, 256), (512, 2_048)]);
+    println!();
+    counted::print_table([(64, 256), (512, 2_048)]);
     println!();
     sheets::print_tables();
     println!();

@@ -92,7 +92,7 @@ fn steady_sheet(grown: &Grown, count: u64) -> Vec<u8> {
     let step = |up: u64| Operation::new(6, &[caller, latch, 0, up]);
     let turns = [step(1), Operation::new(10, &[caller]), step(0), Operation::new(11, &[caller])];
     let mut sheet = vec![1];
-    let mut put = |call: &Operation| sheet.extend(write_record(call).expect("a record"));
+    let mut put = |call: &Operation| sheet.extend(write_record(call, 1).expect("a record"));
     grown.calls.iter().for_each(&mut put);
     (0..2).for_each(|_| put(&step(1)));
     turns.iter().cycle().take(count as usize).for_each(put);
