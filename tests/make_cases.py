@@ -27,7 +27,7 @@ MADE = re.compile(r'(Answers|SoundAlong|DemandAlong)\d+\.antt')
 # thirteen seeds of Answers meet between them every pair of operation and refusal that lists of 60 calls meet at the seeds
 # below 1,500 (refusals 19 to 21 need longer ones). The others were taken for few objects and many kinds of call. Those of
 # edition 2 meet between them, in each kind of case: operation 13, accepted and refused; 24; 14 and 11 on a counted event;
-# links from it made before and after it fired, one to itself; its last delivery, of count 1 and more; deliveries that are
+# links from it, after it fired too, and one to itself; its last delivery, of count 1 and more; deliveries that are
 # dropped and count, the last one too; one destroyed open and one fired, which still delivers.
 KINDS = [
     ('Answers', 'the answers', 'answered freshSession', 60, 7,

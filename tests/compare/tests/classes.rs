@@ -7,11 +7,14 @@ use compare::words::to_words;
 use compare::Memory;
 use second::classes::Classes;
 use second::random::Random;
-use second::sheets::{random_sheet, short_sheet};
-use second::{class, run_over, Session};
+use second::sheets::{random_sheet_of, short_sheet};
+use second::{class, run_over, Edition, Session};
 
 /// Bytes of line memory: the fewest that are taken, one more, more than one line and less than two, and many lines.
 const SIZES: [usize; 4] = [128, 129, 200, 16_384];
+
+/// Long sheets are of the one and the other by turns; of the short ones two of five are of edition 2.
+const EDITIONS: [Edition; 2] = [Edition::First, Edition::Second];
 
 /// Words past those that are used.
 const PAST: usize = 3;
@@ -101,7 +104,7 @@ fn the_session_that_is_left() {
     for count in 0..40 {
         let mut sheets: Vec<Vec<u8>> = (0..count % 5).map(|_| short_sheet(&mut random)).collect();
         if count % 4 == 3 {
-            sheets.push(random_sheet(23, count));
+            sheets.push(random_sheet_of(EDITIONS[count as usize / 4 % 2], 23, count));
         }
         let mut session = Session::fresh();
         sheets.last().map(|sheet| run_over(&mut session, sheet));
@@ -123,7 +126,8 @@ fn the_session_that_is_left() {
 fn the_session_of_the_turn_that_counts() {
     let mut random = Random::new(26);
     for highest in 0..6 {
-        let sheets: Vec<Vec<u8>> = (0..6).map(|index| random_sheet(26, 6 * highest + index)).collect();
+        let sheets: Vec<Vec<u8>> =
+            (0..6).map(|index| random_sheet_of(EDITIONS[index as usize % 2], 26, 6 * highest + index)).collect();
         let turns: Vec<u64> = (0..6).map(|index| if index == highest { 9 } else { random.below(9) }).collect();
         let file = turns_of(&[turns.iter().copied().zip(sheets.iter().cloned()).collect()]);
         let mut session = Session::fresh();

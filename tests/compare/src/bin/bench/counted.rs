@@ -1,5 +1,7 @@
 //! What calls about counted events cost, beside the same calls about stickies: each call is timed by itself.
 
+use std::array;
+
 use compare::layout::WORDS;
 use compare::stages::Grown;
 use compare::Memory;
@@ -61,7 +63,7 @@ fn measure(objects: u64, links: u64) -> Costs {
             let nanos: Vec<f64> = of_row.map(|(_, cost)| cost.as_nanos() as f64).collect();
             nanos.iter().sum::<f64>() / nanos.len() as f64
         };
-        [0, 1, 2, 3, 4, 5, 6].map(mean)
+        array::from_fn(mean)
     })
 }
 
