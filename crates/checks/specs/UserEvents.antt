@@ -1,21 +1,21 @@
 -- What is asked of the types of events in a sound session: there all types are known, so that fewer tests tell them apart.
-use Prim.Native.Nat.{ℕ, suc, _<_}
+use Prim.Native.Nat.{ℕ, _<_}
 use mathlib.Core.Path.{_≡_, refl, sym, subst, _∙_}
 use mathlib.Core.Bool.{not, _&&_, _||_}
 use mathlib.Core.List.{List}
-use mathlib.Core.Logic.{inl, inr, ⊎-elim}
+use mathlib.Core.Logic.{inl, inr}
 use native.Mathlib.Omega.{arith}
 use native.Mathlib.Decide.{decLt}
 use lib.Dec.{eqb}
 use Rattle.session.specs.Table.{Session, read}
 use Rattle.session.specs.TableLaws.{read-past}
 use Rattle.session.specs.declared.Field.the-variants.{Kind, EventType}
-use Rattle.session.specs.Names.{event, task, latch, output, objectPlaces}
+use Rattle.session.specs.Names.{event, latch, output, objectPlaces}
 use Rattle.rules.specs.Formula.{Formula, holds, test, Formula._≐_, Formula._and_, Formula._or_}
 use Rattle.rules.specs.Formula.{not as none}
 use Rattle.rules.specs.FormulaLaws.{test-same}
 use Rattle.rules.specs.Bools.{test-both, test-either, test-eq, test-not}
-use Rattle.rules.specs.EventTypes.{isEventType, isUserType, hasTypeSlot}
+use Rattle.rules.specs.EventTypes.{isEventType, hasTypeSlot}
 use Rattle.rules.specs.EventTypeLaws.{user-no-output, user-unless-output, user-slot, user-second-slot}
 use Rattle.rules.specs.Reading.{isKind, isUserEvent, hasSlot}
 use Rattle.rules.specs.Sound.{sound}
@@ -24,9 +24,6 @@ use Rattle.laws.specs.ByName.{sound-by-name}
 use Rattle.laws.specs.Conjuncts.{event-by-name, Event.type-known}
 
 module _ (ws : List ℕ) (h : ℕ) where
-  s : Session
-  s = read ws
-
   -- the type of an event is one of those there are
   known : holds (sound (read ws)) → read ws Kind h ≡ event → holds (isEventType (read ws EventType h))
   known x k = go (decLt h objectPlaces)
