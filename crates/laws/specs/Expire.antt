@@ -6,8 +6,8 @@ use mathlib.Core.Logic.{_⊎_, inl, inr}
 use mathlib.Core.List.{[], _∷_}
 use native.Mathlib.Omega.{arith}
 use Rattle.session.specs.Table.{Session, put}
-use Rattle.session.specs.declared.Field.the-variants.{Links, Kind, EventState, EventType, LinkSource, LinkState}
-use Rattle.session.specs.Names.{event, eventOpen, fired, destroyedUnfired, destroyedFired, ready, output, counted, objectPlaces}
+use Rattle.session.specs.declared.Field.the-variants.{Kind, EventState, EventType, LinkSource, LinkState}
+use Rattle.session.specs.Names.{event, eventOpen, fired, destroyedUnfired, destroyedFired, counted}
 use Rattle.rules.specs.Formula.{holds, choose, Formula._≐_, Formula._or_}
 use Rattle.rules.specs.FormulaLaws.{Case, decide, choose-case, choose-yes, choose-no, Case.it-does, Case.it-does-not}
 use Rattle.rules.specs.Reading.{servesLast}

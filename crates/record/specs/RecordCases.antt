@@ -7,10 +7,9 @@ use lib.Dec.{lit<}
 use Rattle.number.specs.Number.{limit32, readAt, refusalOf, valueOf}
 use Rattle.number.specs.declared.Reading.the-variants.{Value, Bad, CutShort}
 use Rattle.rules.specs.declared.Arity.the-variants.{Fields, Unknown}
-use Rattle.rules.specs.Arity.{isCode, knows, arityOf, fieldCount}
+use Rattle.rules.specs.Arity.{knows, arityOf, fieldCount}
 use Rattle.rules.specs.Checks.{refusal}
 use Rattle.rules.specs.Formula.{holds, Formula.each}
-use Rattle.rules.specs.Step.{rules}
 use Rattle.rules.specs.FormulaLaws.{Case, decide, choose-yes, choose-no, Case.it-does, Case.it-does-not}
 use Rattle.record.specs.RecordReading.{behind, place, nth, clears, refusedRecord, answered, operationAt, fieldsAt, codeAt}
 use Rattle.record.specs.RecordReading.{firstField, countAt, recordChecks, recordIn}
