@@ -29,16 +29,16 @@ uint64_t faltxigor_sound(const uint64_t *memory, size_t words);
 
 /* One operation: its code and fields, of which those past what the code has are not looked at. Returns the refusal:
  * 0 accepted, 1 the memory is too short, 2 the session is not sound, 6 to 21 and 24 as docs/REFUSALS.md has them. A single
- * operation belongs to no edition: every code is taken, 13 too. *made is the handle or link made, or 0. A refusal changes
- * nothing in the memory and leaves 0 in *made. The whole session is looked at in each call: for many operations take
- * faltxigor_run. */
+ * operation belongs to no edition: every code is taken, 13 too. *made is the handle or link made, or 0; of an end, and of
+ * destroying a task, the steps climbed. A refusal changes nothing in the memory and leaves 0 in *made. The whole session
+ * is looked at in each call: for many operations take faltxigor_run. */
 uint64_t faltxigor_apply(uint64_t *memory, size_t words, uint64_t code, uint64_t f0, uint64_t f1, uint64_t f2,
                          uint64_t f3, uint64_t f4, uint64_t *made);
 
 /* Many operations: a sheet, which is its edition, 1 or 2, and then records, each a code and its fields; edition 2 has
  * operation 13 beside the twelve of edition 1. A number is in groups of seven bits, lowest first, the high bit set on all
  * but the last byte, in the fewest bytes. The answer line of each record goes into `lines` behind the first *used bytes,
- * 32 bytes at most: its number from 1, the refusal, and what was made. A session from faltxigor_fresh that was changed by
+ * 32 bytes at most: its number from 1, the refusal, and what *made is. A session from faltxigor_fresh that was changed by
  * these functions alone is looked at once, before the first record, and so is any other that every operation keeps sound
  * (docs/DECISIONS.md, "Kept"); the rest at each record.
  *

@@ -25,13 +25,14 @@ MADE = re.compile(r'(Answers|SoundAlong|DemandAlong)\d+\.antt')
 
 # The kinds of case: file, what it shows, the claim, calls drawn, lists to a file, seeds of each edition. The first
 # thirteen seeds of Answers meet between them every pair of operation and refusal that lists of 60 calls meet at the seeds
-# below 1,500 (refusals 19 to 21 need longer ones). The others were taken for few objects and many kinds of call. Those of
+# below 1,500 (refusals 19 to 21 need longer ones); 366 and 493 have an end
+# that climbs 2 steps and destroyed tasks that climb 2 and 3. The others were taken for few objects and many kinds of call. Those of
 # edition 2 meet between them, in each kind of case: operation 13, accepted and refused; 24; 14 and 11 on a counted event;
 # links from it, after it fired too, and one to itself; its last delivery, of count 1 and more; deliveries that are
 # dropped and count, the last one too; one destroyed open and one fired, which still delivers.
 KINDS = [
     ('Answers', 'the answers', 'answered freshSession', 60, 7,
-     {1: [292, 923, 354, 1459, 636, 62, 2, 31, 80, 164, 267, 315, 440, 1, 3, 4, 5, 6, 7, 8, 9],
+     {1: [292, 923, 354, 1459, 636, 62, 2, 31, 80, 164, 267, 315, 440, 1, 3, 4, 5, 6, 7, 366, 493],
       2: [10111, 4232, 14331, 8872, 1851, 8933, 4124]}),
     ('SoundAlong', 'the answers, and a sound session after each call', 'soundAlong freshSession', 25, 5,
      {1: [925, 1156, 2361, 2784, 3168, 3296, 3991, 4356, 4415, 6252], 2: [20036, 5003, 11783, 44253, 11612]}),

@@ -10,7 +10,7 @@ import sys
 
 from random_files import compared
 
-COUNT = 600
+KINDS = [(600, [])]
 SEED = '20261116'
 FEW = 4
 
@@ -20,7 +20,7 @@ def main():
         print(__doc__)
         return 2
     program, second = map(os.path.abspath, sys.argv[1:])
-    return compared(program, second, os.path.join(os.path.dirname(second), 'generate-classes'), SEED, COUNT, FEW)
+    return compared(program, second, os.path.join(os.path.dirname(second), 'generate-classes'), SEED, FEW, KINDS)
 
 
 if __name__ == '__main__':

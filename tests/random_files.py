@@ -43,19 +43,19 @@ def cases(files, few):
         yield from varied(*case)
 
 
-def compared(program, second, generator, seed, count, few, kinds=((),)):
-    """Prints each file on which the two programs differ, and `N passed, M failed`; the exit status. Of each kind, the words that the
-    generator is told too, as many files are drawn."""
+def compared(program, second, generator, seed, few, kinds):
+    """Prints each file on which the two programs differ, and `N passed, M failed`; the exit status. A kind of files is how many are
+    drawn, and the words that the generator is told too."""
     passed, failed = 0, 0
 
     def agrees(case):
         return case[0], printed(program, case[1]) == printed(second, case[1])
 
     with concurrent.futures.ThreadPoolExecutor(AT_ONCE) as pool:
-        for files in list(pool.map(lambda more: drawn(generator, seed, count, more), kinds)):
+        for files in list(pool.map(lambda kind: drawn(generator, seed, *kind), kinds)):
             for name, same in pool.map(agrees, cases(files, few)):
                 passed, failed = passed + same, failed + (not same)
                 if not same:
                     print('%s: the two programs print other lines' % name)
     print('%d passed, %d failed' % (passed, failed))
-    return 1 if failed or passed < count * len(kinds) else 0
+    return 1 if failed or passed < sum(count for count, _ in kinds) else 0

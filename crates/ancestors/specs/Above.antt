@@ -15,7 +15,7 @@ use Rattle.rules.specs.FormulaLaws.{Case, decide, choose-yes, choose-no, choose
 use Rattle.rules.specs.Reading.{isLive}
 use Rattle.rules.specs.Descendants.{under, busy}
 use Rattle.laws.specs.Places.{Places, places, Places.one, Places.two}
-use Rattle.laws.specs.Under.{under-enough, or-map, Falls}
+use Rattle.laws.specs.Under.{under-enough, under-down, under-up, under-lower, Falls}
 
 pub creator-low : (s : Session) → Falls s → (h : ℕ) → h ≤ s Objects 0 → s TaskCreator h ≤ h
 creator-low s falls h l = go (decLt 0 (s TaskCreator h))
@@ -53,32 +53,7 @@ module _ (s : Session) (falls : Falls s) where
   abbrev c : ℕ → ℕ
   c = s TaskCreator
 
-  -- who stands above h: its creator, or who stands above that one
-  under-down : (h a : ℕ) → h ≤ s Objects 0 → holds (under c h h a) → (c h ≡ a) ⊎ holds (under c (c h) (c h) a)
-  unfolding under
-  under-down zero a l x = absurd x
-  under-down (suc k) a l x =
-      let f : c (suc k) < suc k = falls (suc k) l (x .0) in
-      or-map (under-enough c (s Objects 0) falls k (c (suc k)) (c (suc k)) a (omega arith) (omega arith)) (x .1)
-
-  under-up : (h a : ℕ) → h ≤ s Objects 0 → 1 ≤ c h → (c h ≡ a) ⊎ holds (under c (c h) (c h) a) → holds (under c h h a)
-  unfolding under
-  under-up zero a l m x = let f = falls 0 l m in absurd (omega arith)
-  under-up (suc k) a l m x =
-      let f : c (suc k) < suc k = falls (suc k) l m in
-      (m, or-map (under-enough c (s Objects 0) falls (c (suc k)) k (c (suc k)) a (omega arith) (omega arith)) x)
-
-  -- who stands above is lower
-  under-lower : (n h a : ℕ) → h ≤ s Objects 0 → holds (under c n h a) → a < h
-  unfolding under
-  under-lower zero h a l x = absurd x
-  under-lower (suc n) h a l x = go (falls h l (x .0)) (under-lower n (c h) a) (x .1)
-    where
-      go : c h < h → (c h ≤ s Objects 0 → holds (under c n (c h) a) → a < c h) → (c h ≡ a) ⊎ holds (under c n (c h) a) → a < h
-      go f r (inl e) = omega arith
-      go f r (inr y) = let z : a < c h = r (omega arith) y in omega arith
-
-  -- and so does the creator of whoever stands above
+  -- the creator of whoever stands above stands above
   under-next : (n h a : ℕ) → 1 ≤ c a → holds (under c n h a) → holds (under c (suc n) h (c a))
   unfolding under
   under-next zero h a m x = absurd x
@@ -130,7 +105,7 @@ module _ (s : Session) (falls : Falls s) where
       marked a (inr y) = marked-above m h b l closed (c h) (c h) a f e y
 
       go : (a : ℕ) → Case (under c h h a) → getD m a 0 ≡ choose (under c h h a) 1 (getD m a 0)
-      go a (it-does x) = marked a (under-down h a l x) ∙ sym (choose-yes (under c h h a) 1 (getD m a 0) x)
+      go a (it-does x) = marked a (under-down s falls h a l x) ∙ sym (choose-yes (under c h h a) 1 (getD m a 0) x)
       go a (it-does-not n) = sym (choose-no (under c h h a) 1 (getD m a 0) n)
 
   -- else the creator is marked, and the walk goes on from it
@@ -166,7 +141,7 @@ module _ (s : Session) (falls : Falls s) where
       f = falls h l p
 
       to : (a : ℕ) → (c h ≡ a) ⊎ holds (under c (c h) (c h) a) → 1 ≡ choose (under c h h a) 1 (getD m a 0)
-      to a y = sym (choose-yes (under c h h a) 1 (getD m a 0) (under-up h a l p y))
+      to a y = sym (choose-yes (under c h h a) 1 (getD m a 0) (under-up s falls h a l p y))
 
       neither : (a : ℕ) → (holds (under c (c h) (c h) a) → ⊥) → (c h ≡ a → ⊥) → (c h ≡ a) ⊎ holds (under c (c h) (c h) a) → ⊥
       neither a n v (inl e) = v e
@@ -181,7 +156,7 @@ module _ (s : Session) (falls : Falls s) where
       go a (it-does-not n) (two w) =
           choose-no (under c (c h) (c h) a) 1 (getD (set m (c h) 1) a 0) n
           ∙ getD-set-other m (c h) a 1 0 (λ z. w (sym z))
-          ∙ sym (choose-no (under c h h a) 1 (getD m a 0) (λ x. neither a n w (under-down h a l x)))
+          ∙ sym (choose-no (under c h h a) 1 (getD m a 0) (λ x. neither a n w (under-down s falls h a l x)))
 
   -- marks of what is busy are closed
   pub shows-closed : (m : List ℕ) (h : ℕ) → s Objects 0 ≤ mostObjects → h ≤ s Objects 0 → Shows m (busyBelow s h)
@@ -195,7 +170,7 @@ module _ (s : Session) (falls : Falls s) where
           let kh : k < h = y .1 in
           let u : holds (under c k k (c a)) =
           under-enough c (s Objects 0) falls (suc k) k k (c a) (omega arith) (omega arith) (under-next k k a up (y .2 .1)) in
-          let low : c a < k = under-lower k k (c a) (omega arith) u in
+          let low : c a < k = under-lower s falls k k (c a) (omega arith) u in
           x (c a) (omega arith) ∙ choose-yes (busyBelow s h (c a)) 1 0 (k, kh, (y .2 .0, u))
 
   -- one more handle looked at

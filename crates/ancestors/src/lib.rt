@@ -44,7 +44,7 @@ fn mark_live(s: &[u64], marks: &mut [u64], h: u64)
 }
 
 // Marks every task that has a live descendant. Internal: callers lend marks that are all 0.
-fn mark_all(s: &[u64], marks: &mut [u64])
+pub fn mark_all(s: &[u64], marks: &mut [u64])
     requires { ⌜ (words ≤ length (now s)) × (read (now s) Objects 0 ≤ mostObjects) × Falls (read (now s))
         × (length (now marks) ≡ objectPlaces) × Shows (now marks) (λ a. never) ⌝ }
     ensures { λ r. ⌜ Shows (now (marks .exit)) (busy (was s)) ⌝ }

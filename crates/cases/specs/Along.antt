@@ -25,9 +25,9 @@ use Rattle.rules.specs.Book.{enterDeliver, enterStart, enterEnd, madeBy, live, 
 use Rattle.rules.specs.Book.{Column.Kind as BookKind, Column.Objects as BookObjects, Column.Links as BookLinks, Column.Times}
 use Rattle.rules.specs.Book.{Column.Brought, Column.Has, Column.Starts, Column.Ended, Column.Count, Column.Finish, Column.Output}
 use Rattle.rules.specs.Book.{Column.Destroyed, Column.Struck}
-use Rattle.rules.specs.Descendants.{under}
+use Rattle.rules.specs.Descendants.{under, climb}
 
--- a call and its answer: the refusal (0 if accepted), and the handle or link made
+-- a call and its answer: the refusal (0 if accepted), and the handle or link made or the steps climbed
 pub record Line : Type 0 where
   pub operation : Operation
   pub refused : ℕ
@@ -42,8 +42,8 @@ answers s l = answer s (l .operation) ≐ l .refused and outcome s (l .operation
 
 -- all that a call computes with
 unfoldable pub computed : ℕ
-unfolding put change test ofType count under refusal new newTemplate newEvent newTask makeTask newBlock fire fireOne satisfySlot
-    tally satisfyEvent satisfy claim newLink depend buryDoomed letGo release destroyEvent fireFinished destroyTask destroyBlock
+unfolding put change test ofType count under climb refusal new newTemplate newEvent newTask makeTask newBlock fire fireOne
+    satisfySlot tally satisfyEvent satisfy claim newLink depend buryDoomed letGo release destroyEvent fireFinished destroyTask destroyBlock
     destroy drops expire bring deliver grant start end rules freshSession answer after outcome
 computed = 0
 

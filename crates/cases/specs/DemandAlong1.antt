@@ -32,7 +32,7 @@ seed775 : demandAlong freshSession opening (
     ∷ line 4 (2 ∷ 0 ∷ []) 0 12
     ∷ line 2 (2 ∷ 5 ∷ 17 ∷ 1 ∷ 1 ∷ []) 0 13
     ∷ line 1 (2 ∷ 2 ∷ []) 0 15
-    ∷ line 8 (2 ∷ 13 ∷ []) 0 0
+    ∷ line 8 (2 ∷ 13 ∷ []) 0 1
     ∷ line 8 (2 ∷ 5 ∷ []) 0 0
     ∷ line 3 (2 ∷ 1 ∷ []) 0 16
     ∷ line 3 (2 ∷ 3 ∷ []) 0 17
@@ -46,7 +46,7 @@ seed775 : demandAlong freshSession opening (
     ∷ line 9 (18 ∷ []) 9 0
     ∷ line 10 (0 ∷ []) 9 0
     ∷ line 9 (1 ∷ []) 0 0
-    ∷ line 12 (6 ∷ 1 ∷ []) 0 0
+    ∷ line 12 (6 ∷ 1 ∷ []) 0 1
     ∷ line 5 (15 ∷ 10 ∷ 10 ∷ 1 ∷ 4 ∷ []) 8 0
     ∷ line 6 (2 ∷ 10 ∷ 0 ∷ 0 ∷ []) 14 0
     ∷ line 3 (2 ∷ 3 ∷ []) 0 19
@@ -101,7 +101,7 @@ seed1194 : demandAlong freshSession opening (
     ∷ line 5 (2 ∷ 11 ∷ 5 ∷ 1 ∷ 4 ∷ []) 12 0
     ∷ line 1 (8 ∷ 2 ∷ []) 0 15
     ∷ line 2 (8 ∷ 4 ∷ 0 ∷ 1 ∷ 1 ∷ []) 0 16
-    ∷ line 8 (2 ∷ 14 ∷ []) 0 0
+    ∷ line 8 (2 ∷ 14 ∷ []) 0 1
     ∷ line 2 (2 ∷ 9 ∷ 17 ∷ 0 ∷ 1 ∷ []) 0 18
     ∷ line 2 (2 ∷ 4 ∷ 0 ∷ 0 ∷ 1 ∷ []) 0 20
     ∷ line 9 (1 ∷ []) 0 0
@@ -138,24 +138,24 @@ seed1194 : demandAlong freshSession opening (
     ∷ line 12 (8 ∷ 0 ∷ []) 0 0
     ∷ line 12 (12 ∷ 0 ∷ []) 0 0
     ∷ line 11 (16 ∷ []) 0 0
-    ∷ line 12 (16 ∷ 0 ∷ []) 0 0
+    ∷ line 12 (16 ∷ 0 ∷ []) 0 1
     ∷ line 11 (20 ∷ []) 0 0
-    ∷ line 12 (20 ∷ 0 ∷ []) 0 0
+    ∷ line 12 (20 ∷ 0 ∷ []) 0 1
     ∷ line 10 (23 ∷ []) 0 0
     ∷ line 11 (23 ∷ []) 0 0
-    ∷ line 12 (23 ∷ 0 ∷ []) 0 0
+    ∷ line 12 (23 ∷ 0 ∷ []) 0 1
     ∷ line 10 (27 ∷ []) 0 0
     ∷ line 11 (27 ∷ []) 0 0
-    ∷ line 12 (27 ∷ 0 ∷ []) 0 0
+    ∷ line 12 (27 ∷ 0 ∷ []) 0 1
     ∷ line 10 (28 ∷ []) 0 0
     ∷ line 11 (28 ∷ []) 0 0
-    ∷ line 12 (28 ∷ 0 ∷ []) 0 0
+    ∷ line 12 (28 ∷ 0 ∷ []) 0 1
     ∷ line 11 (31 ∷ []) 0 0
-    ∷ line 12 (31 ∷ 0 ∷ []) 0 0
+    ∷ line 12 (31 ∷ 0 ∷ []) 0 2
     ∷ line 9 (2 ∷ []) 0 0
     ∷ line 10 (10 ∷ []) 0 0
     ∷ line 11 (10 ∷ []) 0 0
-    ∷ line 12 (10 ∷ 0 ∷ []) 0 0
+    ∷ line 12 (10 ∷ 0 ∷ []) 0 1
     ∷ []) ≡ true
 unfolding demandAlong
 seed1194 = refl
@@ -193,7 +193,7 @@ seed1405 : demandAlong freshSession opening (
     ∷ line 2 (5 ∷ 11 ∷ 0 ∷ 1 ∷ 0 ∷ []) 0 17
     ∷ line 9 (1 ∷ []) 0 0
     ∷ line 3 (5 ∷ 4 ∷ []) 0 18
-    ∷ line 8 (5 ∷ 13 ∷ []) 0 0
+    ∷ line 8 (5 ∷ 13 ∷ []) 0 1
     ∷ line 7 (5 ∷ 8 ∷ []) 15 0
     ∷ line 5 (5 ∷ 15 ∷ 15 ∷ 1 ∷ 2 ∷ []) 0 2
     ∷ line 5 (5 ∷ 4 ∷ 10 ∷ 0 ∷ 3 ∷ []) 0 3
@@ -204,10 +204,10 @@ seed1405 : demandAlong freshSession opening (
     ∷ line 5 (5 ∷ 22 ∷ 20 ∷ 0 ∷ 1 ∷ []) 0 4
     ∷ line 2 (5 ∷ 11 ∷ 17 ∷ 0 ∷ 18 ∷ []) 7 0
     ∷ line 5 (5 ∷ 15 ∷ 20 ∷ 0 ∷ 2 ∷ []) 13 0
-    ∷ line 8 (5 ∷ 19 ∷ []) 0 0
+    ∷ line 8 (5 ∷ 19 ∷ []) 0 1
     ∷ line 10 (17 ∷ []) 0 0
     ∷ line 6 (5 ∷ 0 ∷ 0 ∷ 12 ∷ []) 9 0
-    ∷ line 8 (5 ∷ 21 ∷ []) 0 0
+    ∷ line 8 (5 ∷ 21 ∷ []) 0 1
     ∷ line 11 (17 ∷ []) 0 0
     ∷ line 5 (17 ∷ 10 ∷ 20 ∷ 2 ∷ 3 ∷ []) 0 5
     ∷ line 2 (17 ∷ 16 ∷ 17 ∷ 1 ∷ 1 ∷ []) 0 23
@@ -217,20 +217,20 @@ seed1405 : demandAlong freshSession opening (
     ∷ line 6 (17 ∷ 10 ∷ 0 ∷ 1 ∷ []) 0 0
     ∷ line 2 (17 ∷ 11 ∷ 0 ∷ 1 ∷ 0 ∷ []) 0 28
     ∷ line 7 (17 ∷ 0 ∷ []) 9 0
-    ∷ line 8 (17 ∷ 20 ∷ []) 0 0
+    ∷ line 8 (17 ∷ 20 ∷ []) 0 1
     ∷ line 5 (17 ∷ 1 ∷ 23 ∷ 0 ∷ 1 ∷ []) 0 0
     ∷ line 2 (17 ∷ 11 ∷ 0 ∷ 0 ∷ 1 ∷ []) 0 29
     ∷ line 9 (3 ∷ []) 0 0
     ∷ line 12 (17 ∷ 0 ∷ []) 0 0
     ∷ line 10 (26 ∷ []) 0 0
     ∷ line 11 (26 ∷ []) 0 0
-    ∷ line 12 (26 ∷ 0 ∷ []) 0 0
+    ∷ line 12 (26 ∷ 0 ∷ []) 0 1
     ∷ line 10 (28 ∷ []) 0 0
     ∷ line 11 (28 ∷ []) 0 0
-    ∷ line 12 (28 ∷ 0 ∷ []) 0 0
+    ∷ line 12 (28 ∷ 0 ∷ []) 0 1
     ∷ line 10 (29 ∷ []) 0 0
     ∷ line 11 (29 ∷ []) 0 0
-    ∷ line 12 (29 ∷ 0 ∷ []) 0 0
+    ∷ line 12 (29 ∷ 0 ∷ []) 0 1
     ∷ []) ≡ true
 unfolding demandAlong
 seed1405 = refl
@@ -263,7 +263,7 @@ seed1701 : demandAlong freshSession opening (
     ∷ line 11 (11 ∷ []) 0 0
     ∷ line 9 (1 ∷ []) 0 0
     ∷ line 2 (11 ∷ 16383 ∷ 17 ∷ 1 ∷ 1 ∷ []) 9 0
-    ∷ line 12 (11 ∷ 8 ∷ []) 0 0
+    ∷ line 12 (11 ∷ 8 ∷ []) 0 1
     ∷ line 6 (2 ∷ 4 ∷ 1 ∷ 0 ∷ []) 0 0
     ∷ line 5 (2 ∷ 0 ∷ 2 ∷ 0 ∷ 1 ∷ []) 13 0
     ∷ line 3 (2 ∷ 2 ∷ []) 0 13
@@ -298,17 +298,17 @@ seed1701 : demandAlong freshSession opening (
     ∷ line 5 (2 ∷ 14 ∷ 2 ∷ 0 ∷ 1 ∷ []) 13 0
     ∷ line 12 (2 ∷ 0 ∷ []) 0 0
     ∷ line 12 (15 ∷ 0 ∷ []) 0 0
-    ∷ line 12 (17 ∷ 0 ∷ []) 0 0
-    ∷ line 12 (19 ∷ 0 ∷ []) 0 0
-    ∷ line 12 (21 ∷ 0 ∷ []) 0 0
+    ∷ line 12 (17 ∷ 0 ∷ []) 0 1
+    ∷ line 12 (19 ∷ 0 ∷ []) 0 1
+    ∷ line 12 (21 ∷ 0 ∷ []) 0 1
     ∷ line 11 (25 ∷ []) 0 0
-    ∷ line 12 (25 ∷ 0 ∷ []) 0 0
+    ∷ line 12 (25 ∷ 0 ∷ []) 0 1
     ∷ line 10 (26 ∷ []) 0 0
     ∷ line 11 (26 ∷ []) 0 0
-    ∷ line 12 (26 ∷ 0 ∷ []) 0 0
+    ∷ line 12 (26 ∷ 0 ∷ []) 0 2
     ∷ line 10 (28 ∷ []) 0 0
     ∷ line 11 (28 ∷ []) 0 0
-    ∷ line 12 (28 ∷ 0 ∷ []) 0 0
+    ∷ line 12 (28 ∷ 0 ∷ []) 0 1
     ∷ []) ≡ true
 unfolding demandAlong
 seed1701 = refl
@@ -348,14 +348,14 @@ seed1909 : demandAlong freshSession opening (
     ∷ line 4 (2 ∷ 1 ∷ []) 0 14
     ∷ line 2 (2 ∷ 13 ∷ 0 ∷ 0 ∷ 0 ∷ []) 0 15
     ∷ line 3 (2 ∷ 2049 ∷ []) 7 0
-    ∷ line 8 (2 ∷ 11 ∷ []) 0 0
+    ∷ line 8 (2 ∷ 11 ∷ []) 0 1
     ∷ line 2 (2 ∷ 13 ∷ 0 ∷ 0 ∷ 0 ∷ []) 0 16
     ∷ line 2 (2 ∷ 13 ∷ 0 ∷ 0 ∷ 0 ∷ []) 0 17
     ∷ line 1 (2 ∷ 17 ∷ []) 0 18
     ∷ line 2 (2 ∷ 13 ∷ 0 ∷ 0 ∷ 0 ∷ []) 0 19
     ∷ line 10 (128 ∷ []) 9 0
     ∷ line 8 (2 ∷ 3 ∷ []) 0 0
-    ∷ line 8 (2 ∷ 15 ∷ []) 0 0
+    ∷ line 8 (2 ∷ 15 ∷ []) 0 1
     ∷ line 10 (16 ∷ []) 0 0
     ∷ line 5 (15 ∷ 4 ∷ 0 ∷ 0 ∷ 1 ∷ []) 8 0
     ∷ line 8 (2 ∷ 8 ∷ []) 0 0
@@ -367,7 +367,7 @@ seed1909 : demandAlong freshSession opening (
     ∷ line 12 (16 ∷ 1 ∷ []) 0 0
     ∷ line 6 (2 ∷ 20 ∷ 1 ∷ 6 ∷ []) 12 0
     ∷ line 3 (2 ∷ 4 ∷ []) 0 23
-    ∷ line 8 (2 ∷ 19 ∷ []) 0 0
+    ∷ line 8 (2 ∷ 19 ∷ []) 0 1
     ∷ line 2 (2 ∷ 13 ∷ 0 ∷ 1 ∷ 1 ∷ []) 0 24
     ∷ line 10 (21 ∷ []) 0 0
     ∷ line 11 (17 ∷ []) 0 0
@@ -377,17 +377,17 @@ seed1909 : demandAlong freshSession opening (
     ∷ line 9 (3 ∷ []) 0 0
     ∷ line 9 (4 ∷ []) 0 0
     ∷ line 12 (2 ∷ 0 ∷ []) 0 0
-    ∷ line 12 (17 ∷ 0 ∷ []) 0 0
+    ∷ line 12 (17 ∷ 0 ∷ []) 0 1
     ∷ line 11 (21 ∷ []) 0 0
-    ∷ line 12 (21 ∷ 0 ∷ []) 0 0
+    ∷ line 12 (21 ∷ 0 ∷ []) 0 2
     ∷ line 11 (24 ∷ []) 0 0
-    ∷ line 12 (24 ∷ 0 ∷ []) 0 0
+    ∷ line 12 (24 ∷ 0 ∷ []) 0 1
     ∷ line 10 (26 ∷ []) 0 0
     ∷ line 11 (26 ∷ []) 0 0
-    ∷ line 12 (26 ∷ 0 ∷ []) 0 0
+    ∷ line 12 (26 ∷ 0 ∷ []) 0 1
     ∷ line 10 (28 ∷ []) 0 0
     ∷ line 11 (28 ∷ []) 0 0
-    ∷ line 12 (28 ∷ 0 ∷ []) 0 0
+    ∷ line 12 (28 ∷ 0 ∷ []) 0 1
     ∷ []) ≡ true
 unfolding demandAlong
 seed1909 = refl

@@ -70,10 +70,10 @@ seed3804 : demandAlong freshSession opening (
     ∷ line 12 (2 ∷ 0 ∷ []) 0 0
     ∷ line 10 (11 ∷ []) 0 0
     ∷ line 11 (11 ∷ []) 0 0
-    ∷ line 12 (11 ∷ 0 ∷ []) 0 0
+    ∷ line 12 (11 ∷ 0 ∷ []) 0 1
     ∷ line 10 (17 ∷ []) 0 0
     ∷ line 11 (17 ∷ []) 0 0
-    ∷ line 12 (17 ∷ 0 ∷ []) 0 0
+    ∷ line 12 (17 ∷ 0 ∷ []) 0 1
     ∷ []) ≡ true
 unfolding demandAlong
 seed3804 = refl
@@ -134,25 +134,25 @@ seed4320 : demandAlong freshSession opening (
     ∷ line 11 (22 ∷ []) 0 0
     ∷ line 9 (4 ∷ []) 16 0
     ∷ line 5 (9 ∷ 1 ∷ 4 ∷ 1 ∷ 4 ∷ []) 12 0
-    ∷ line 12 (22 ∷ 17 ∷ []) 0 0
+    ∷ line 12 (22 ∷ 17 ∷ []) 0 1
     ∷ line 9 (4 ∷ []) 16 0
     ∷ line 5 (2 ∷ 0 ∷ 25 ∷ 1 ∷ 2 ∷ []) 0 0
     ∷ line 11 (13 ∷ []) 0 0
     ∷ line 2 (6 ∷ 24 ∷ 3 ∷ 0 ∷ 1 ∷ []) 8 0
     ∷ line 12 (2 ∷ 0 ∷ []) 0 0
-    ∷ line 12 (4 ∷ 0 ∷ []) 0 0
-    ∷ line 12 (5 ∷ 0 ∷ []) 0 0
-    ∷ line 12 (9 ∷ 0 ∷ []) 0 0
-    ∷ line 12 (13 ∷ 0 ∷ []) 0 0
-    ∷ line 12 (15 ∷ 0 ∷ []) 0 0
+    ∷ line 12 (4 ∷ 0 ∷ []) 0 1
+    ∷ line 12 (5 ∷ 0 ∷ []) 0 1
+    ∷ line 12 (9 ∷ 0 ∷ []) 0 1
+    ∷ line 12 (13 ∷ 0 ∷ []) 0 1
+    ∷ line 12 (15 ∷ 0 ∷ []) 0 1
     ∷ line 12 (18 ∷ 0 ∷ []) 0 0
     ∷ line 11 (20 ∷ []) 0 0
-    ∷ line 12 (20 ∷ 0 ∷ []) 0 0
+    ∷ line 12 (20 ∷ 0 ∷ []) 0 1
     ∷ line 9 (3 ∷ []) 0 0
     ∷ line 9 (4 ∷ []) 0 0
     ∷ line 10 (25 ∷ []) 0 0
     ∷ line 11 (25 ∷ []) 0 0
-    ∷ line 12 (25 ∷ 0 ∷ []) 0 0
+    ∷ line 12 (25 ∷ 0 ∷ []) 0 2
     ∷ []) ≡ true
 unfolding demandAlong
 seed4320 = refl
@@ -181,7 +181,7 @@ seed6031 : demandAlong freshSession opening (
     ∷ line 4 (2 ∷ 1 ∷ []) 0 12
     ∷ line 4 (2 ∷ 1 ∷ []) 0 13
     ∷ line 2 (2 ∷ 11 ∷ 17 ∷ 0 ∷ 0 ∷ []) 0 14
-    ∷ line 8 (2 ∷ 14 ∷ []) 0 0
+    ∷ line 8 (2 ∷ 14 ∷ []) 0 1
     ∷ line 3 (2 ∷ 12 ∷ []) 7 0
     ∷ line 2 (2 ∷ 11 ∷ 17 ∷ 0 ∷ 1 ∷ []) 0 15
     ∷ line 3 (2 ∷ 1 ∷ []) 0 17
@@ -189,7 +189,7 @@ seed6031 : demandAlong freshSession opening (
     ∷ line 5 (2 ∷ 1 ∷ 9 ∷ 1 ∷ 4 ∷ []) 12 0
     ∷ line 8 (2 ∷ 7 ∷ []) 11 0
     ∷ line 6 (2 ∷ 6 ∷ 5 ∷ 0 ∷ []) 14 0
-    ∷ line 8 (2 ∷ 15 ∷ []) 0 0
+    ∷ line 8 (2 ∷ 15 ∷ []) 0 1
     ∷ line 6 (2 ∷ 9 ∷ 12 ∷ 0 ∷ []) 0 0
     ∷ line 11 (14 ∷ []) 11 0
     ∷ line 3 (2 ∷ 3 ∷ []) 0 18
@@ -220,7 +220,7 @@ seed6031 : demandAlong freshSession opening (
     ∷ line 9 (2 ∷ []) 0 0
     ∷ line 10 (19 ∷ []) 0 0
     ∷ line 11 (19 ∷ []) 0 0
-    ∷ line 12 (19 ∷ 0 ∷ []) 0 0
+    ∷ line 12 (19 ∷ 0 ∷ []) 0 1
     ∷ []) ≡ true
 unfolding demandAlong
 seed6031 = refl
@@ -280,7 +280,7 @@ seed6552 : demandAlong freshSession opening (
     ∷ line 2 (2 ∷ 6 ∷ 17 ∷ 1 ∷ 1 ∷ []) 0 22
     ∷ line 10 (14 ∷ []) 0 0
     ∷ line 2 (2 ∷ 6 ∷ 3 ∷ 0 ∷ 1 ∷ []) 0 24
-    ∷ line 8 (2 ∷ 22 ∷ []) 0 0
+    ∷ line 8 (2 ∷ 22 ∷ []) 0 1
     ∷ line 1 (2 ∷ 17 ∷ []) 0 26
     ∷ line 4 (2 ∷ 0 ∷ []) 0 27
     ∷ line 12 (2 ∷ 3 ∷ []) 0 0
@@ -321,7 +321,7 @@ seed6677 : demandAlong freshSession opening (
     ∷ line 8 (11 ∷ 7 ∷ []) 0 0
     ∷ line 1 (11 ∷ 0 ∷ []) 0 12
     ∷ line 1 (2 ∷ 16 ∷ []) 0 13
-    ∷ line 12 (11 ∷ 1 ∷ []) 0 0
+    ∷ line 12 (11 ∷ 1 ∷ []) 0 1
     ∷ line 3 (2 ∷ 2 ∷ []) 0 14
     ∷ line 4 (2 ∷ 1 ∷ []) 0 15
     ∷ line 4 (2 ∷ 1 ∷ []) 0 16
@@ -355,10 +355,10 @@ seed6677 : demandAlong freshSession opening (
     ∷ line 12 (2 ∷ 0 ∷ []) 0 0
     ∷ line 10 (6 ∷ []) 0 0
     ∷ line 11 (6 ∷ []) 0 0
-    ∷ line 12 (6 ∷ 0 ∷ []) 0 0
+    ∷ line 12 (6 ∷ 0 ∷ []) 0 1
     ∷ line 12 (18 ∷ 0 ∷ []) 0 0
     ∷ line 11 (27 ∷ []) 0 0
-    ∷ line 12 (27 ∷ 0 ∷ []) 0 0
+    ∷ line 12 (27 ∷ 0 ∷ []) 0 1
     ∷ []) ≡ true
 unfolding demandAlong
 seed6677 = refl

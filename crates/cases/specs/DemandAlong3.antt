@@ -27,7 +27,7 @@ seed7671 : demandAlong freshSession opening (
     ∷ line 6 (2 ∷ 6 ∷ 0 ∷ 1 ∷ []) 12 0
     ∷ line 3 (2 ∷ 3 ∷ []) 0 9
     ∷ line 8 (7 ∷ 7 ∷ []) 8 0
-    ∷ line 8 (2 ∷ 5 ∷ []) 0 0
+    ∷ line 8 (2 ∷ 5 ∷ []) 0 1
     ∷ line 4 (2 ∷ 0 ∷ []) 0 10
     ∷ line 4 (2 ∷ 1 ∷ []) 0 11
     ∷ line 9 (1 ∷ []) 0 0
@@ -267,13 +267,13 @@ seed19080 : demandAlong freshSession opening (
     ∷ line 11 (14 ∷ []) 0 0
     ∷ line 3 (14 ∷ 4 ∷ []) 0 25
     ∷ line 12 (2 ∷ 0 ∷ []) 0 0
-    ∷ line 12 (14 ∷ 0 ∷ []) 0 0
+    ∷ line 12 (14 ∷ 0 ∷ []) 0 1
     ∷ line 10 (18 ∷ []) 0 0
     ∷ line 11 (18 ∷ []) 0 0
-    ∷ line 12 (18 ∷ 0 ∷ []) 0 0
+    ∷ line 12 (18 ∷ 0 ∷ []) 0 1
     ∷ line 10 (22 ∷ []) 0 0
     ∷ line 11 (22 ∷ []) 0 0
-    ∷ line 12 (22 ∷ 0 ∷ []) 0 0
+    ∷ line 12 (22 ∷ 0 ∷ []) 0 1
     ∷ []) ≡ true
 unfolding demandAlong
 seed19080 = refl

@@ -29,7 +29,7 @@ seed925 : soundAlong freshSession (
     ∷ line 11 (6 ∷ []) 0 0
     ∷ line 6 (5 ∷ 7 ∷ 1 ∷ 0 ∷ []) 0 0
     ∷ line 3 (5 ∷ 4 ∷ []) 0 8
-    ∷ line 12 (5 ∷ 1 ∷ []) 0 0
+    ∷ line 12 (5 ∷ 1 ∷ []) 0 1
     ∷ line 8 (6 ∷ 7 ∷ []) 0 0
     ∷ line 8 (6 ∷ 8 ∷ []) 0 0
     ∷ []) ≡ true

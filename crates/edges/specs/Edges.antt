@@ -1,5 +1,5 @@
--- "Edges, marked P" (document 01), and its false roads, and document 02's counted events: one table and one theorem that all of it
--- holds.
+-- "Edges, marked P" (document 01), and its false roads, and document 02's counted events and climbs: one table and one theorem that all
+-- of it holds.
 use mathlib.Core.List.{[], _∷_}
 use mathlib.Core.Path.{_≡_, ap}
 use Rattle.number.specs.Number.{limit32, readAt, refusalOf}
@@ -7,7 +7,8 @@ use Rattle.number.specs.declared.Reading.the-variants.{Value}
 use Rattle.number.specs.Edges.{P6 as number-edge}
 use Rattle.rules.specs.Formula.{holds}
 use Rattle.rules.specs.Edges.{p1, p2, p3, p4, p8, p8-then, p9, p10, readyStays, grantWhole, firstClaim}
-use Rattle.rules.specs.Edges.{countedGoes, countedStays, countedStays-then, allMet, edges, edges-met}
+use Rattle.rules.specs.Edges.{countedGoes, countedStays, countedStays-then, climbsNone, climbsOn, climbsToMain}
+use Rattle.rules.specs.Edges.{allMet, edges, edges-met}
 use Rattle.sheet.specs.SheetPrinted.{output}
 use Rattle.edges.specs.Single.{Met, met}
 use Rattle.edges.specs.Filled.{p5, filled}
@@ -49,6 +50,11 @@ pub record Edges : Type 0 where
   pub counted-goes : Met countedGoes
   pub counted-stays : Met countedStays
   pub counted-stays-then : Met countedStays-then
+  -- document 02, E5: no step while a task that it made is live; then as far as a live task, or one with a live descendant, stands,
+  -- and no further than main
+  pub climbs-none : Met climbsNone
+  pub climbs-on : Met climbsOn
+  pub climbs-to-main : Met climbsToMain
 
 number-read : (refusalOf (readAt limit32 (128 ∷ 0 ∷ []) 0) ≡ 4) × (readAt limit32 (128 ∷ 1 ∷ []) 0 ≡ Value 128 2)
 unfolding refusalOf
@@ -58,7 +64,7 @@ pub edges-hold : Edges
 edges-hold = go edges-met
   where
     go : holds (allMet edges) → Edges
-    go (m1, (m2, (m3, (m4, (m8, (m8-then, (m9, (m10, (stays, (whole, (claim, (goes, (kept, (kept-then, _)))))))))))))) = record {
+    go (m1, (m2, (m3, (m4, (m8, (m8-then, (m9, (m10, (stays, (whole, (claim, (goes, (kept, (kept-then, (none, (on, (main, _))))))))))))))))) = record {
       P1 = met p1 m1;
       P2 = met p2 m2;
       P3 = met p3 m3;
@@ -76,4 +82,7 @@ edges-hold = go edges-met
       counted-goes = met countedGoes goes;
       counted-stays = met countedStays kept;
       counted-stays-then = met countedStays-then kept-then;
+      climbs-none = met climbsNone none;
+      climbs-on = met climbsOn on;
+      climbs-to-main = met climbsToMain main;
     }

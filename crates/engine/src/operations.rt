@@ -98,8 +98,7 @@ pub fn destroy(s: &mut [u64], caller: u64, h: u64) -> Answer
     if refused != 0 {
         return Answer::Refused(refused);
     }
-    retiring::destroy(s, caller, h);
-    Answer::Accepted(0)
+    Answer::Accepted(retiring::destroy(s, caller, h))
 }
 
 pub fn deliver(s: &mut [u64], l: u64) -> Answer
@@ -146,8 +145,7 @@ pub fn end(s: &mut [u64], t: u64, b: u64) -> Answer
     if refused != 0 {
         return Answer::Refused(refused);
     }
-    retiring::end(s, t, b);
-    Answer::Accepted(0)
+    Answer::Accepted(retiring::end(s, t, b))
 }
 
 pub fn counted(s: &mut [u64], caller: u64, n: u64) -> Answer

@@ -17,6 +17,8 @@ use Rattle.laws.specs.LettingGo.{was-held}
 use Rattle.reading.specs.Holds.{Active}
 use Rattle.laws.specs.Puts.{put-same}
 use Rattle.holding.specs.SweepRows.{row, rows, own-end, change-same, change-at}
+use Rattle.reading.specs.Finding.{Passed}
+use Rattle.holding.specs.Passing.{sweep-passed}
 
 -- the blocks to let go of: one, or all of them where it is 0
 abbrev pub wanted : ℕ → ℕ → Formula
@@ -61,16 +63,25 @@ madeLetGo s t = change s BlockHeld (rows (madeRow t) s)
 abbrev pub Unheld : Session → Type 0
 Unheld s = (b : ℕ) → s Objects 0 < b → s BlockHeld b ≡ 0
 
-pub made-end : (s : Session) (t n : ℕ) → Unheld s → n ≡ s Objects 0 + 1 → sweep s BlockHeld n (rows (madeRow t) s) ≡ madeLetGo s t
+-- a block that t did not make stays
+made-stays : (s : Session) (t b : ℕ) → (s BlockCreator b ≡ t → ⊥) → madeRow t b (row s b) ≡ s BlockHeld b
+unfolding madeRow
+made-stays s t b n = choose-no (s BlockCreator b ≐ t) 0 (s BlockHeld b) n
+
+-- and is passed
+pub made-passed : (s r : Session) (t m n : ℕ) → r ≡ sweep s BlockHeld m (rows (madeRow t) s) → Passed r BlockCreator t m n
+    → sweep s BlockHeld m (rows (madeRow t) s) ≡ sweep s BlockHeld n (rows (madeRow t) s)
+made-passed s r t m n p q = sweep-passed s r BlockHeld BlockCreator t m n (rows (madeRow t) s) p q (made-stays s t)
+
+pub made-end : (s : Session) (t n : ℕ) → Unheld s → s Objects 0 < n → sweep s BlockHeld n (rows (madeRow t) s) ≡ madeLetGo s t
 unfolding madeLetGo madeRow
 made-end s t n u e =
-    rw e (sweep-change s BlockHeld (s Objects 0 + 1) (rows (madeRow t) s)
-    (λ b l. go b (u b (omega arith)) (decide (s BlockCreator b ≐ t))))
+    sweep-change s BlockHeld n (rows (madeRow t) s) (λ b l. go b (u b (omega arith)) (decide (s BlockCreator b ≐ t)))
   where
     go : (b : ℕ) → s BlockHeld b ≡ 0 → Case (s BlockCreator b ≐ t)
         → choose (s BlockCreator b ≐ t) 0 (s BlockHeld b) ≡ s BlockHeld b
     go b z (it-does x) = choose-yes (s BlockCreator b ≐ t) 0 (s BlockHeld b) x ∙ sym z
-    go b z (it-does-not n) = choose-no (s BlockCreator b ≐ t) 0 (s BlockHeld b) n
+    go b z (it-does-not n) = made-stays s t b n
 
 -- the doomed blocks
 unfoldable pub buried : Session → ℕ → ℕ
@@ -88,13 +99,22 @@ buried-more s r n p =
     (sweep-past s BlockState n (buried s) BlockState n (omega arith)) in
     rw (e, p) (sweep-more s BlockState n (buried s))
 
-pub buried-end : (s : Session) (n : ℕ) → Unmarked s → n ≡ s Objects 0 + 1 → sweep s BlockState n (buried s) ≡ buryDoomed s
+-- a block that is not doomed, or held, stays
+bury-stays : (s : Session) (b : ℕ) → ((s BlockState b ≡ doomed) × (holds (isHeld s b) → ⊥) → ⊥) → buried s b ≡ s BlockState b
+unfolding buried
+bury-stays s b n = choose-no (s BlockState b ≐ doomed and not (isHeld s b)) blockDestroyed (s BlockState b) n
+
+-- and is passed where it is not doomed
+pub buried-passed : (s r : Session) (m n : ℕ) → r ≡ sweep s BlockState m (buried s) → Passed r BlockState doomed m n
+    → sweep s BlockState m (buried s) ≡ sweep s BlockState n (buried s)
+buried-passed s r m n p q =
+    sweep-passed s r BlockState BlockState doomed m n (buried s) p q (λ j d. bury-stays s j (λ x. d (x .0)))
+
+pub buried-end : (s : Session) (n : ℕ) → Unmarked s → s Objects 0 < n → sweep s BlockState n (buried s) ≡ buryDoomed s
 unfolding buried buryDoomed
 buried-end s n u e =
-    rw e
-    (sweep-change s BlockState (s Objects 0 + 1) (buried s)
-    (λ b l. choose-no (s BlockState b ≐ doomed and not (isHeld s b)) blockDestroyed (s BlockState b)
-    (λ x. let z = u b (omega arith) in let d = x .0 in omega arith)))
+    sweep-change s BlockState n (buried s)
+    (λ b l. bury-stays s b (λ x. let z = u b (omega arith) in let d = x .0 in omega arith))
 
 -- letting go of everything: the three in a row
 pub letGo-all : (s : Session) (t : ℕ) → letGo s t (λ k. 0 ≐ 0) ≡ buryDoomed (madeLetGo (slotsLetGo s t 0) t)
@@ -115,8 +135,7 @@ unfolding madeRow
 made-yes s t b e = choose-yes (s BlockCreator b ≐ t) 0 (s BlockHeld b) e
 
 pub made-no : (s : Session) (t b : ℕ) → (s BlockCreator b ≡ t → ⊥) → put s BlockHeld b (madeRow t b (row s b)) ≡ s
-unfolding madeRow
-made-no s t b n = ap (put s BlockHeld b) (choose-no (s BlockCreator b ≐ t) 0 (s BlockHeld b) n) ∙ put-same s BlockHeld b
+made-no s t b n = ap (put s BlockHeld b) (made-stays s t b n) ∙ put-same s BlockHeld b
 
 -- a block that is buried, or not
 pub bury-yes : (s : Session) (b : ℕ) → s BlockState b ≡ doomed → (holds (isHeld s b) → ⊥) → buried s b ≡ blockDestroyed
@@ -125,10 +144,7 @@ bury-yes s b e n = choose-yes (s BlockState b ≐ doomed and not (isHeld s b)) b
 
 pub bury-no : (s : Session) (b : ℕ) → ((s BlockState b ≡ doomed) × (holds (isHeld s b) → ⊥) → ⊥)
     → put s BlockState b (buried s b) ≡ s
-unfolding buried
-bury-no s b n =
-    ap (put s BlockState b) (choose-no (s BlockState b ≐ doomed and not (isHeld s b)) blockDestroyed (s BlockState b) n)
-    ∙ put-same s BlockState b
+bury-no s b n = ap (put s BlockState b) (bury-stays s b n) ∙ put-same s BlockState b
 
 -- doomed blocks are held
 abbrev pub Doomed : Session → Type 0

@@ -74,11 +74,11 @@ fn drop_all_made(s: &mut [u64], t: u64)
     requires { ⌜ (words ≤ length (now s)) × (read (now s) Objects 0 ≤ mostObjects) × Unheld (read (now s)) ⌝ }
     ensures { λ r. ⌜ Becomes s (madeLetGo (was s) t) ⌝ }
 {
-    let n = session::get(s, Field::Objects, 0);
-    let mut b: u64 = 0;
+    let n = session::get(s, Field::Objects, 0) as usize;
+    let mut b: usize = 0;
     while b <= n {
-        drop_made(s, t, b);
-        b += 1;
+        drop_made(s, t, b as u64);
+        b = reading::find(s, Field::BlockCreator, t, b + 1, n + 1);
     }
 }
 
@@ -101,11 +101,11 @@ fn bury_all(s: &mut [u64])
         × Active (read (now s)) ⌝ }
     ensures { λ r. ⌜ Becomes s (buryDoomed (was s)) ⌝ }
 {
-    let n = session::get(s, Field::Objects, 0);
-    let mut b: u64 = 0;
+    let n = session::get(s, Field::Objects, 0) as usize;
+    let mut b: usize = 0;
     while b <= n {
-        bury(s, b);
-        b += 1;
+        bury(s, b as u64);
+        b = reading::find(s, Field::BlockState, names::DOOMED, b + 1, n + 1);
     }
 }
 

@@ -40,6 +40,7 @@ pub mod SatisfyEvent
 pub mod Satisfy
 pub mod Apart
 pub mod Claim
+pub mod Climbing
 pub mod FillSlot
 pub mod NewLink
 pub mod Dependence

@@ -8,11 +8,13 @@ use lib.Dec.{T}
 use lib.ListN.{getD}
 use Rattle.session.specs.Table.{Session}
 use Rattle.session.specs.Names.{event, task, counted, mostLinks}
-use Rattle.session.specs.declared.Field.the-variants.{Objects, Links}
+use Rattle.session.specs.declared.Field.the-variants.{Objects, Links, TaskCreator}
 use Rattle.rules.specs.declared.Operation.{Operation}
 use Rattle.rules.specs.Formula.{holds, choose, test, Formula._≐_, Formula._≼_, Formula._and_, not}
 use Rattle.rules.specs.EventTypes.{firesAtFirst}
 use Rattle.rules.specs.FormulaLaws.{choose-case}
+use Rattle.rules.specs.Reading.{made, isKind}
+use Rattle.rules.specs.Descendants.{climbed, isOver}
 use Rattle.rules.specs.Checks.{Check, makesLink, taskSlots}
 use Rattle.rules.specs.Checks.{templateChecks, taskChecks, eventChecks, blockChecks, dependenceChecks, satisfyChecks}
 use Rattle.rules.specs.Checks.{releaseChecks, destroyChecks, deliverChecks, grantChecks, startChecks, endChecks, countedChecks}
@@ -24,10 +26,12 @@ use Rattle.rules.specs.Book.{enterDeliver, enterStart, enterEnd}
 use Rattle.rules.specs.Demand.{moves}
 use Rattle.rules.specs.Step.{Rule, rules, ruleOf, unknown, arg, after, outcome, entered}
 use Rattle.rules.specs.Step.{templateRule, taskRule, eventRule, blockRule, dependenceRule, satisfyRule, releaseRule, destroyRule}
-use Rattle.rules.specs.Step.{deliverRule, grantRule, startRule, endRule, countedRule}
+use Rattle.rules.specs.Step.{deliverRule, grantRule, startRule, endRule, countedRule, endClimbs, destroyClimbs}
+use Rattle.laws.specs.Rows.Name.{counts}
 use Rattle.laws.specs.Keeping.{Kept}
 use Rattle.laws.specs.Met.{Checked, numbered, all-met, by-number}
 use Rattle.laws.specs.Accepted.{Accepted}
+use Rattle.laws.specs.Climbing.{climb-few}
 use Rattle.laws.specs.ByName.{by-name, sound-by-name, kept-of}
 use Rattle.laws.specs.Lasting.{Later, later-same}
 use Rattle.laws.specs.LastingEffects.{later-newTemplate, later-newEvent, later-newBlock, later-makeTask}
@@ -97,8 +101,8 @@ pub record Proved (code : ℕ) (r : Rule) : Type 0 where
       → left s ≡ 1 + left (r .does s o)
   -- only a start is entered as one
   pub starts : (code ≡ 11 → ⊥) → (b : Book) (o : Operation) (h : ℕ) → r .enters b o Column.Starts h ≡ b Column.Starts h
-  -- what is made is a handle or a link, and with one field nothing is
-  pub makes-few : (s : Session) (o : Operation) → Checked (r .asks s o) → r .makes s o ≤ mostLinks
+  -- what is made is a handle or a link, or steps are climbed; with one field nothing is
+  pub makes-few : (s : Session) (o : Operation) → Checked (r .asks s o) → holds (sound s) → r .makes s o ≤ mostLinks
   pub makes-none : r .arity ≡ 1 → (s : Session) (o : Operation) → r .makes s o ≡ 0
 
 template-proved : Proved 1 templateRule
@@ -119,7 +123,7 @@ template-proved =
       relates = λ s b o m k r. related-template s b _ r;
       falls = λ m. absurd (omega arith);
       starts = λ n b o h. refl;
-      makes-few = λ s o m. let room = m 20 in omega arith;
+      makes-few = λ s o m h. let room = m 20 in omega arith;
       makes-none = λ e. absurd (omega arith);
     }
 
@@ -145,7 +149,7 @@ task-proved =
       falls = λ m. absurd (omega arith);
       starts =
           λ n b o h. choose-case (λ (c : Book). c Column.Starts h ≡ b Column.Starts h) (arg o 4 ≐ 1) _ _ (λ _. refl) (λ _. refl);
-      makes-few = λ s o m. let room = m 20 in omega arith;
+      makes-few = λ s o m h. let room = m 20 in omega arith;
       makes-none = λ e. absurd (omega arith);
     }
 
@@ -167,7 +171,7 @@ event-proved =
       relates = λ s b o m k r. related-event s b _ _ r;
       falls = λ m. absurd (omega arith);
       starts = λ n b o h. refl;
-      makes-few = λ s o m. let room = m 20 in omega arith;
+      makes-few = λ s o m h. let room = m 20 in omega arith;
       makes-none = λ e. absurd (omega arith);
     }
 
@@ -189,7 +193,7 @@ block-proved =
       relates = λ s b o m k r. related-block s b _ _ r;
       falls = λ m. absurd (omega arith);
       starts = λ n b o h. refl;
-      makes-few = λ s o m. let room = m 20 in omega arith;
+      makes-few = λ s o m h. let room = m 20 in omega arith;
       makes-none = λ e. absurd (omega arith);
     }
 
@@ -226,7 +230,7 @@ dependence-proved =
           choose-case (λ (c : Book). c Column.Starts h ≡ b Column.Starts h) (b Column.Kind (arg o 1) ≐ event) _ _ (λ _. refl)
           (λ _. satisfies-none b _ _ _ h);
       makes-few =
-          λ s o m. choose-case (λ (n : ℕ). n ≤ mostLinks) (makesLink s (arg o 1)) _ _ (λ k. m 21 k) (λ _. omega arith);
+          λ s o m h. choose-case (λ (n : ℕ). n ≤ mostLinks) (makesLink s (arg o 1)) _ _ (λ k. m 21 k) (λ _. omega arith);
       makes-none = λ e. absurd (omega arith);
     }
 
@@ -249,7 +253,7 @@ satisfy-proved =
       relates = λ s b o m k r. related-satisfaction s b _ _ _ _ m k r;
       falls = λ m. absurd (omega arith);
       starts = λ n b o h. satisfies-none b _ _ _ h;
-      makes-few = λ s o m. omega arith;
+      makes-few = λ s o m h. omega arith;
       makes-none = λ e s o. refl;
     }
 
@@ -270,9 +274,16 @@ release-proved =
       relates = λ s b o m k r. related-release s b _ _ r;
       falls = λ m. absurd (omega arith);
       starts = λ n b o h. refl;
-      makes-few = λ s o m. omega arith;
+      makes-few = λ s o m h. omega arith;
       makes-none = λ e s o. refl;
     }
+
+-- no more steps are climbed than there are handles
+climbed-low : (s r : Session) (t : ℕ) → holds (sound s) → holds (made s t) → climbed r t ≤ mostLinks
+climbed-low s r t h m =
+    let few = sound-by-name s h counts .1 .0 in
+    let low = climb-few (r TaskCreator) (isOver r) t t in
+    omega arith
 
 destroy-proved : Proved 8 destroyRule
 unfolding enter strike enterDestroy test
@@ -285,7 +296,7 @@ destroy-proved =
           record {
             asks = λ i. destroyChecks s (a0 i) (a1 i);
             does = λ i. destroy s (a0 i) (a1 i);
-            makes = refl;
+            makes = λ i. destroyClimbs s (a0 i) (a1 i);
           };
       keeps = λ s o m k. destroy-keeps s _ _ m k;
       undoes-nothing = λ s o m h. later-destroy s (sound-by-name s h) _ _ m;
@@ -297,8 +308,11 @@ destroy-proved =
           let d = arg o 1 in
           choose-case P (b Column.Kind d ≐ event) _ _ (λ _. refl)
           (λ _. choose-case P (b Column.Kind d ≐ task and b Column.Output d ≐ 1) _ _ (λ _. refl) (λ _. refl));
-      makes-few = λ s o m. omega arith;
-      makes-none = λ e s o. refl;
+      makes-few =
+          λ s o m h.
+          choose-case (λ (n : ℕ). n ≤ mostLinks) (isKind s task (arg o 1)) _ 0
+          (λ _. climbed-low s (destroy s (arg o 0) (arg o 1)) (arg o 1) h (m 9)) (λ _. omega arith);
+      makes-none = λ e. absurd (omega arith);
     }
 
 deliver-proved : Proved 9 deliverRule
@@ -318,7 +332,7 @@ deliver-proved =
       relates = λ s b o m k r. related-delivery s b _ m k r;
       falls = λ _ s o m k. deliver-falls s _ m k;
       starts = λ n b o h. satisfies-none (enter b Column.Struck (arg o 0) 1) _ _ _ h;
-      makes-few = λ s o m. omega arith;
+      makes-few = λ s o m h. omega arith;
       makes-none = λ e s o. refl;
     }
 
@@ -338,7 +352,7 @@ grant-proved =
       relates = λ s b o m k r. related-grant s b _ m k r;
       falls = λ _ s o m k. grant-falls s _ m;
       starts = λ n b o h. refl;
-      makes-few = λ s o m. omega arith;
+      makes-few = λ s o m h. omega arith;
       makes-none = λ e s o. refl;
     }
 
@@ -359,7 +373,7 @@ start-proved =
       relates = λ s b o m k r. related-start s b _ m r;
       falls = λ _ s o m k. start-falls s _ m;
       starts = λ n. absurd (n refl);
-      makes-few = λ s o m. omega arith;
+      makes-few = λ s o m h. omega arith;
       makes-none = λ e s o. refl;
     }
 
@@ -374,7 +388,7 @@ end-proved =
           record {
             asks = λ i. endChecks s (a0 i) (a1 i);
             does = λ i. end s (a0 i) (a1 i);
-            makes = refl;
+            makes = λ i. endClimbs s (a0 i) (a1 i);
           };
       keeps = λ s o m k. end-keeps s _ _ m k;
       undoes-nothing = λ s o m h. later-end s (sound-by-name s h) _ _ m;
@@ -384,8 +398,8 @@ end-proved =
           λ n b o h.
           choose-case (λ (c : Book). c Column.Starts h ≡ b Column.Starts h) (b Column.Output (arg o 0) ≐ 1) _ _ (λ _. refl)
           (λ _. refl);
-      makes-few = λ s o m. omega arith;
-      makes-none = λ e s o. refl;
+      makes-few = λ s o m h. climbed-low s (end s (arg o 0) (arg o 1)) (arg o 0) h (m 9 .0);
+      makes-none = λ e. absurd (omega arith);
     }
 
 counted-proved : Proved 13 countedRule
@@ -406,7 +420,7 @@ counted-proved =
       relates = λ s b o m k r. related-event s b _ _ r;
       falls = λ m. absurd (omega arith);
       starts = λ n b o h. refl;
-      makes-few = λ s o m. let room = m 20 in omega arith;
+      makes-few = λ s o m h. let room = m 20 in omega arith;
       makes-none = λ e. absurd (omega arith);
     }
 
@@ -421,7 +435,7 @@ unknown-proved code =
       relates = λ s b o m k r. absurd (m 6);
       falls = λ _ s o m k. absurd (m 6);
       starts = λ n b o h. refl;
-      makes-few = λ s o m. absurd (m 6);
+      makes-few = λ s o m h. absurd (m 6);
       makes-none = λ e s o. refl;
     }
 
@@ -479,8 +493,8 @@ module _ (s : Session) (o : Operation) (a : Accepted s o) where
   pub moves-fall : holds (moves o) → holds (kept s) → left s ≡ 1 + left (after s o)
   moves-fall c k = rw (a .leaves) (proved o .falls c s o checks-met k)
 
-  pub made-few : outcome s o ≤ mostLinks
-  made-few = rw (a .makes) (proved o .makes-few s o checks-met)
+  pub made-few : holds (sound s) → outcome s o ≤ mostLinks
+  made-few h = rw (a .makes) (proved o .makes-few s o checks-met h)
 
   pub made-none : ruleOf o .arity ≡ 1 → outcome s o ≡ 0
   made-none e = rw (a .makes) (proved o .makes-none e s o)

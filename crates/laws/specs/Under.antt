@@ -31,6 +31,12 @@ under-enough c n falls (suc k) (suc m) h a l e x =
     let f = falls h l (x .0) in
     (x .0, or-map (under-enough c n falls k m (c h) a (omega arith) (omega arith)) (x .1))
 
+-- whom somebody stands above has a creator
+pub under-made : (c : ℕ → ℕ) (h a : ℕ) → holds (under c h h a) → 1 ≤ c h
+unfolding under
+under-made c zero a x = absurd x
+under-made c (suc k) a x = x .0
+
 -- creators that agree up to n give the same descendants up to n
 pub under-same : (c d : ℕ → ℕ) (n : ℕ) → ((h : ℕ) → h ≤ n → c h ≡ d h) → ((h : ℕ) → h ≤ n → d h ≤ n) → (k h a : ℕ) → h ≤ n
     → holds (under c k h a) → holds (under d k h a)
@@ -72,3 +78,32 @@ creator-made s k h l = go (decLt 0 (s TaskCreator h))
     go : Dec (0 < s TaskCreator h) → s TaskCreator h ≤ s Objects 0
     go (yes m) = let f = creator-falls s k h l m in omega arith
     go (no n) = omega arith
+
+module _ (s : Session) (falls : Falls s) where
+  abbrev c : ℕ → ℕ
+  c = s TaskCreator
+
+  -- who stands above h: its creator, or who stands above that one
+  pub under-down : (h a : ℕ) → h ≤ s Objects 0 → holds (under c h h a) → (c h ≡ a) ⊎ holds (under c (c h) (c h) a)
+  unfolding under
+  under-down zero a l x = absurd x
+  under-down (suc k) a l x =
+      let f : c (suc k) < suc k = falls (suc k) l (x .0) in
+      or-map (under-enough c (s Objects 0) falls k (c (suc k)) (c (suc k)) a (omega arith) (omega arith)) (x .1)
+
+  pub under-up : (h a : ℕ) → h ≤ s Objects 0 → 1 ≤ c h → (c h ≡ a) ⊎ holds (under c (c h) (c h) a) → holds (under c h h a)
+  unfolding under
+  under-up zero a l m x = let f = falls 0 l m in absurd (omega arith)
+  under-up (suc k) a l m x =
+      let f : c (suc k) < suc k = falls (suc k) l m in
+      (m, or-map (under-enough c (s Objects 0) falls (c (suc k)) k (c (suc k)) a (omega arith) (omega arith)) x)
+
+  -- who stands above is lower
+  pub under-lower : (n h a : ℕ) → h ≤ s Objects 0 → holds (under c n h a) → a < h
+  unfolding under
+  under-lower zero h a l x = absurd x
+  under-lower (suc n) h a l x = go (falls h l (x .0)) (under-lower n (c h) a) (x .1)
+    where
+      go : c h < h → (c h ≤ s Objects 0 → holds (under c n (c h) a) → a < c h) → (c h ≡ a) ⊎ holds (under c n (c h) a) → a < h
+      go f r (inl e) = omega arith
+      go f r (inr y) = let z : a < c h = r (omega arith) y in omega arith

@@ -32,7 +32,7 @@ pub extern "C" fn faltxigor_sound(memory: &[u64]) -> u64
     1
 }
 
-// An answer as document 01 has it: the refusal, 0 if accepted, and what was made, or 0, into `made`.
+// An answer as document 01 has it: the refusal, 0 if accepted, and what was made or the steps climbed, or 0, into `made`.
 pub fn tell(answer: Answer, made: &mut u64) -> u64
     ensures refused { λ r. ⌜ r ≡ refusedOf answer ⌝ }
     ensures made { λ r. ⌜ now (made .exit) ≡ madeOf answer ⌝ }
@@ -49,7 +49,7 @@ pub fn tell(answer: Answer, made: &mut u64) -> u64
     }
 }
 
-// One operation: the refusal, 0 if accepted; what was made, or 0, goes into `made`.
+// One operation: the refusal, 0 if accepted; what was made or the steps climbed, or 0, goes into `made`.
 #[no_mangle]
 pub extern "C" fn faltxigor_apply(
     memory: &mut [u64],

@@ -4,3 +4,4 @@ pub mod Gone
 pub mod SlotsByKind
 pub mod Holders
 pub mod Holds
+pub mod Finding

@@ -2,12 +2,14 @@
 // of what the rules say of objects, links and holds (Reading.antt), one function each. Internal: callers have shown the length of the
 // memory; its words may be any numbers.
 mod counted;
+mod finding;
 mod holders;
 mod holds;
 mod objects;
 
 pub use counted::has_its_count;
 pub use counted::serves_last;
+pub use finding::find;
 pub use holders::next_holder;
 pub use holds::holds_block;
 pub use holds::is_held;

@@ -20,11 +20,12 @@ use Rattle.rules.specs.Sound.{outputs}
 use Rattle.rules.specs.Effects.{finishes, letGo, buryDoomed, fire, fireOne, fireFinished, destroyEvent}
 use Rattle.rules.specs.Descendants.{under, busy}
 use Rattle.laws.specs.Places.{Places, places, put-there, Places.one, Places.two}
-use Rattle.laws.specs.Under.{under-enough, or-map}
+use Rattle.laws.specs.Under.{Falls, under-made, under-down, under-up}
 use Rattle.laws.specs.Conjuncts.{finishes-by-name, output-by-name, Output.fires-with}
 use Rattle.retiring.specs.TidyUnderWay.{Tidy}
-use Rattle.retiring.specs.Finish.{Marks, waits, waits-of, one-fires, fires-nothing}
+use Rattle.retiring.specs.Finish.{Marks, one-fires, fires-nothing}
 use Rattle.retiring.specs.RetiringParts.{outputDestroyed, outputFired, ending}
+use Rattle.retiring.specs.Children.{Childless}
 
 -- a is h, or stands above it by the creators given
 abbrev pub Reached : (ℕ → ℕ) → ℕ → ℕ → Type 0
@@ -35,20 +36,9 @@ pub record OnlyAbove (s : Session) (h : ℕ) : Type 0 where
   pub known : h ≤ s Objects 0
   pub reached : (e : ℕ) → holds (finishes s e) → Reached (s TaskCreator) h (e - 1)
 
--- what finishes and is reached from t is reached from h too, which is at most the last handle
-pub record Narrowed (s : Session) (t h : ℕ) : Type 0 where
-  pub known : h ≤ s Objects 0
-  pub reached : (e : ℕ) → holds (finishes s e) → Reached (s TaskCreator) t (e - 1) → Reached (s TaskCreator) h (e - 1)
-
--- a climb stops where it stands, or past the last task
-pub narrowed-here : (s : Session) (t : ℕ) → t ≤ s Objects 0 → Narrowed s t t
-narrowed-here s t l = record { known = l; reached = λ e f r. r }
-
-pub narrowed-none : (s : Session) (t : ℕ) → t ≡ 0 → Narrowed s t 0
-narrowed-none s t z = record { known = omega arith; reached = λ e f r. let m = r .0 in absurd (omega arith) }
-
-pub only-narrowed : (s : Session) (t h : ℕ) → OnlyAbove s t → Narrowed s t h → OnlyAbove s h
-only-narrowed s t h o n = record { known = n .known; reached = λ e f. n .reached e f (o .reached e f) }
+-- no output event finishes but e
+abbrev pub OnlyOne : Session → ℕ → Type 0
+OnlyOne s e = (k : ℕ) → holds (finishes s k) → k ≡ e
 
 -- A climb has come to h: what is marked finishes, and what finishes is marked or reached from h. found is 0 where nothing is
 -- marked, the event where it is one, and a number past every handle where there may be more.
@@ -83,22 +73,43 @@ pub creator-done : (s : Session) (h : ℕ) → (s TaskState (s TaskCreator h) �
 unfolding doneCreator
 creator-done s h n = choose-no (s TaskState (s TaskCreator h) ≼ running) 0 (s TaskCreator h) n
 
--- handle 0 stands below nobody
-pub none-above : (s : Session) → OnlyAbove s 0 → fireFinished s ≡ s
-none-above s o = fires-nothing s (λ e f. let z = o .reached e f .0 in omega arith)
+pub creator-none : (s : Session) (h : ℕ) → s TaskCreator h ≡ 0 → doneCreator s h ≡ 0
+creator-none s h z = go (decide (s TaskState (s TaskCreator h) ≼ running))
+  where
+    go : Case (s TaskState (s TaskCreator h) ≼ running) → doneCreator s h ≡ 0
+    go (it-does live) = creator-live s h live
+    go (it-does-not n) = creator-done s h n ∙ z
 
--- who stands above h is its creator or stands above that one
-above-creator : (c : ℕ → ℕ) (n : ℕ) → ((h : ℕ) → h ≤ n → 1 ≤ c h → c h < h) → (h a : ℕ) → h ≤ n → holds (under c h h a)
-    → Reached c (c h) a
+-- whoever stands above one who stands above d stands above d
+under-through : (s : Session) → Falls s → (k d h a : ℕ) → d ≤ s Objects 0 → holds (under (s TaskCreator) k d h)
+    → holds (under (s TaskCreator) h h a) → holds (under (s TaskCreator) d d a)
 unfolding under
-above-creator c n falls zero a l x = absurd x
-above-creator c n falls (suc k) a l x =
-    let f : c (suc k) < suc k = falls (suc k) l (x .0) in
-    (x .0, or-map (under-enough c n falls k (c (suc k)) (c (suc k)) a (omega arith) (omega arith)) (x .1))
+under-through s falls zero d h a l x y = absurd x
+under-through s falls (suc k) d h a l x y =
+    let f = falls d l (x .0) in
+    under-up s falls d a l (x .0) (inr (go f (under-through s falls k (s TaskCreator d) h a) (x .1)))
+  where
+    c : ℕ → ℕ
+    c = s TaskCreator
+
+    go : c d < d → (c d ≤ s Objects 0 → holds (under c k (c d) h) → holds (under c h h a) → holds (under c (c d) (c d) a))
+        → (c d ≡ h) ⊎ holds (under c k (c d) h) → holds (under c (c d) (c d) a)
+    go f r (inl e) = subst (λ (i : ℕ). holds (under c i i a)) (sym e) y
+    go f r (inr u) = r (omega arith) u y
 
 module _ (s : Session) (x : Tidy s) (h : ℕ) (l : h ≤ s Objects 0) where
   abbrev c : ℕ → ℕ
   c = s TaskCreator
+
+  -- so whoever stands above a busy task is busy
+  pub busy-above : (a : ℕ) → holds (busy s h) → Reached c h a → holds (busy s a)
+  busy-above a b y = go (y .1)
+    where
+      go : (h ≡ a) ⊎ holds (under c h h a) → holds (busy s a)
+      go (inl e) = subst (λ (i : ℕ). holds (busy s i)) e b
+      go (inr u) =
+          let n = b .1 in
+          (b .0, n, (b .2 .0, under-through s (x .frame .falls) (b .0) (b .0) h a (omega arith) (b .2 .1) u))
 
   pub creator-made : c h ≤ s Objects 0
   creator-made = go (decLt 0 (c h))
@@ -106,6 +117,13 @@ module _ (s : Session) (x : Tidy s) (h : ℕ) (l : h ≤ s Objects 0) where
       go : Dec (0 < c h) → c h ≤ s Objects 0
       go (yes p) = let f = x .frame .falls h l p in omega arith
       go (no n) = omega arith
+
+  pub done-low : doneCreator s h ≤ s Objects 0
+  done-low = go (decide (s TaskState (c h) ≼ running))
+    where
+      go : Case (s TaskState (c h) ≼ running) → doneCreator s h ≤ s Objects 0
+      go (it-does live) = rw (creator-live s h live) (omega arith)
+      go (it-does-not n) = rw (creator-done s h n) creator-made
 
   pub done-lower : 1 ≤ h → doneCreator s h < h
   done-lower m = go (decide (s TaskState (c h) ≼ running)) (decLt 0 (c h))
@@ -132,22 +150,29 @@ module _ (s : Session) (x : Tidy s) (h : ℕ) (l : h ≤ s Objects 0) where
       up y (it-does live) = let n = finishes-by-name s e f in absurd (live-stops (e - 1) live (n .over) (n .idle) y)
       up y (it-does-not d) = rw (creator-done s h d) y
 
+      above : holds (under c h h (e - 1)) → Reached c (c h) (e - 1)
+      above u = (under-made c h (e - 1) u, under-down s (x .frame .falls) h (e - 1) l u)
+
       go : (h ≡ e - 1) ⊎ holds (under c h h (e - 1)) → B ⊎ Reached c (doneCreator s h) (e - 1)
       go (inl q) = let m = r .0 in inl (own (omega arith))
-      go (inr u) = inr (up (above-creator c (s Objects 0) (x .frame .falls) h (e - 1) l u) (decide (s TaskState (c h) ≼ running)))
-
-  -- what is narrowed to from one step up is narrowed to from h, where the event of h does not wait
-  pub climbs : (r u : ℕ) → u ≡ doneCreator s h → (holds (waits s h) → ⊥) → Narrowed s u r → Narrowed s h r
-  climbs r u e n o = record {
-    known = o .known;
-    reached = λ k f q. o .reached k f (go k (step k f q (λ i. n (waits-of s h (subst (λ (j : ℕ). holds (finishes s j)) i f)))));
-  }
-    where
-      go : (k : ℕ) → ⊥ ⊎ Reached c (doneCreator s h) (k - 1) → Reached c u (k - 1)
-      go k (inl q) = absurd q
-      go k (inr q) = rw e q
+      go (inr u) = inr (up (above u) (decide (s TaskState (c h) ≼ running)))
 
   module _ (m : List ℕ) (found : ℕ) (some : 1 ≤ h) (y : Climbed s m found h) where
+    -- nothing above a busy task finishes
+    pub climbed-busy : holds (busy s h) → Climbed s m found 0
+    climbed-busy b = record {
+      known = omega arith;
+      sure = y .sure;
+      reached = λ e f. go e f (y .reached e f);
+      alone = y .alone;
+      there = y .there;
+    }
+      where
+        go : (e : ℕ) → holds (finishes s e) → (getD m e 0 ≡ 1) ⊎ Reached c h (e - 1)
+            → (getD m e 0 ≡ 1) ⊎ Reached c 0 (e - 1)
+        go e f (inl q) = inl q
+        go e f (inr r) = absurd (finishes-by-name s e f .idle (busy-above (e - 1) b r))
+
     -- one step up where the event of h does not finish
     pub climbed-past : (holds (finishes s (h + 1)) → ⊥) → Climbed s m found (doneCreator s h)
     climbed-past n = record {
@@ -299,6 +324,10 @@ module _ (s r : Session) (t : ℕ) (x : Tidy s) (o : holds (outputs s)) (own : O
           let stays : r EventState e ≡ s EventState e = own .events e (λ q. n (omega arith)) in
           let unfired = finishes-by-name r e f .unfired in
           absurd (omega arith)
+
+-- and who made no task made none in r
+pub childless-own : (s r : Session) (t : ℕ) → OnlyOwn s r t → Childless s t → Childless r t
+childless-own s r t own none d l e = none d (rw (own .count) at l) (rw (own .creators) at e)
 
 -- what an end and the destroying of a task write before that
 module _ (s : Session) (t : ℕ) where

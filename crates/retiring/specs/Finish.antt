@@ -140,7 +140,13 @@ mark-yes f m e n = go (decide f)
 -- firing leaves a session tidy
 pub tidy-fired : (s : Session) (m : List ℕ) → Tidy s → Tidy (statesFired s m)
 unfolding statesFired fireRow change
-tidy-fired s m t = record { frame = t .frame; no-more = t .no-more; open-empty = λ e k o. after e k o (decide (getD m e 0 ≐ 1)) }
+tidy-fired s m t =
+    record {
+      frame = t .frame;
+      no-more = t .no-more;
+      open-empty = λ e k o. after e k o (decide (getD m e 0 ≐ 1));
+      states = t .states;
+    }
   where
     after : (e : ℕ) → s Kind e ≡ event → choose (getD m e 0 ≐ 1) fired (s EventState e) ≡ eventOpen → Case (getD m e 0 ≐ 1)
         → s EventPayload e ≡ 0

@@ -3,4 +3,5 @@ pub mod TidyUnderWay
 pub mod Finish
 pub mod RetiringParts
 pub mod Climb
-pub mod Alone
+pub mod Children
+pub mod Steps

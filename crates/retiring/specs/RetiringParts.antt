@@ -1,12 +1,12 @@
 -- The parts that a destroying and an end are made of.
 use Prim.Native.Nat.{ℕ, _+_, _≤_, _<_}
-use mathlib.Core.Path.{_≡_, refl, _∙_}
+use mathlib.Core.Path.{_≡_, refl, sym, ap, _∙_}
 use mathlib.Core.List.{List}
 use mathlib.Core.Logic.{inl, inr}
 use native.Mathlib.Omega.{arith}
 use Rattle.session.specs.Table.{Session, read, put, change}
 use Rattle.session.specs.declared.Field.the-variants.{Objects, Kind, TemplateState, TaskState, TaskFinish, TaskOutput, BlockState}
-use Rattle.session.specs.Names.{mostObjects, template, task, event, templateDestroyed, ended, taskDestroyed, doomed}
+use Rattle.session.specs.Names.{mostObjects, template, task, event, templateDestroyed, running, ended, taskDestroyed, doomed}
 use Rattle.session.specs.Names.{blockDestroyed}
 use Rattle.rules.specs.Formula.{holds, choose, Formula._≐_, Formula._and_}
 use Rattle.rules.specs.FormulaLaws.{choose-yes, choose-no, choose-case}
@@ -17,7 +17,10 @@ use Rattle.laws.specs.Rows.Name.{counts, taskParts, outputs}
 use Rattle.laws.specs.Keeping.{Sound}
 use Rattle.laws.specs.ByName.{sound-by-name}
 use Rattle.laws.specs.Conjuncts.{no-task as fields-of-none, output-by-name, Output.output-made}
-use Rattle.rules.specs.Effects.{letGo, buryDoomed, release, fireOne, fireFinished, destroyEvent, destroyTask, destroyBlock}
+use Rattle.rules.specs.Descendants.{climbed}
+use Rattle.rules.specs.Step.{destroyClimbs}
+use Rattle.laws.specs.Places.{put-here}
+use Rattle.rules.specs.Effects.{letGo, buryDoomed, release, fire, fireOne, fireFinished, destroyEvent, destroyTask, destroyBlock}
 use Rattle.rules.specs.Effects.{destroy, end}
 use Rattle.laws.specs.Standing.{handle-made}
 use Rattle.retiring.specs.TidyUnderWay.{Tidy, tidy, tidy-state, tidy-letGo, tidy-fireOne, tidy-destroyEvent}
@@ -66,7 +69,32 @@ unfolding put letGo buryDoomed change
 low-ending s t l = l
 
 pub tidy-ending : (s : Session) (t : ℕ) → Tidy s → Tidy (ending s t)
-tidy-ending s t x = tidy-state (letGo s t (λ k. 0 ≐ 0)) (tidy-letGo s x t (λ k. 0 ≐ 0)) t ended
+tidy-ending s t x = tidy-state (letGo s t (λ k. 0 ≐ 0)) (tidy-letGo s x t (λ k. 0 ≐ 0)) t ended (omega arith)
+
+-- what is done with the output event changes no task's state
+fired-keeps : (s : Session) (t b u : ℕ) → outputFired s t b TaskState u ≡ s TaskState u
+unfolding outputFired fireOne fire change
+fired-keeps s t b u =
+    choose-case (λ q. q TaskState u ≡ s TaskState u) (s TaskOutput t ≐ 1 and s TaskFinish t ≐ 0) (fireOne s (t + 1) b) s
+    (λ _. refl) (λ _. refl)
+
+destroyed-keeps : (s : Session) (t u : ℕ) → outputDestroyed s t TaskState u ≡ s TaskState u
+unfolding outputDestroyed destroyEvent put change
+destroyed-keeps s t u =
+    choose-case (λ q. q TaskState u ≡ s TaskState u) (s TaskOutput t ≐ 1) (destroyEvent s (t + 1)) s (λ _. refl) (λ _. refl)
+
+-- so the task is not live
+pub ended-over : (s : Session) (t b : ℕ) → outputFired (ending s t) t b TaskState t ≤ running → ⊥
+ended-over s t b l =
+    let e : outputFired (ending s t) t b TaskState t ≡ ended =
+    fired-keeps (ending s t) t b t ∙ put-here (letGo s t (λ k. 0 ≐ 0)) TaskState t t ended refl in
+    omega arith
+
+pub destroyed-over : (s : Session) (t : ℕ) → outputDestroyed (put s TaskState t taskDestroyed) t TaskState t ≤ running → ⊥
+destroyed-over s t l =
+    let e : outputDestroyed (put s TaskState t taskDestroyed) t TaskState t ≡ taskDestroyed =
+    destroyed-keeps (put s TaskState t taskDestroyed) t t ∙ put-here s TaskState t t taskDestroyed refl in
+    omega arith
 
 -- a block's state once it is destroyed
 unfoldable pub fate : Session → ℕ → ℕ
@@ -124,6 +152,15 @@ module _ (s : Session) (t h : ℕ) where
   pub destroys-event : s Kind h ≡ event → destroy s t h ≡ destroyEvent s h
   destroys-event e =
       no-task (λ q. omega arith) (λ q. omega arith) ∙ choose-yes (s Kind h ≐ event) (destroyEvent s h) (destroyBlock s t h) e
+
+  -- the steps that are answered: of a task those climbed, of anything else none
+  pub task-climbs : s Kind h ≡ task → climbed (destroyTask s h) h ≡ destroyClimbs s t h
+  task-climbs e =
+      ap (λ (q : Session). climbed q h) (sym (destroys-task e))
+      ∙ sym (choose-yes (s Kind h ≐ task) (climbed (destroy s t h) h) 0 e)
+
+  pub other-climbs : (s Kind h ≡ task → ⊥) → 0 ≡ destroyClimbs s t h
+  other-climbs n = sym (choose-no (s Kind h ≐ task) (climbed (destroy s t h) h) 0 n)
 
   pub destroys-block : (s Kind h ≡ template → ⊥) → (s Kind h ≡ task → ⊥) → (s Kind h ≡ event → ⊥)
       → destroy s t h ≡ destroyBlock s t h

@@ -1,5 +1,5 @@
 // Destroying objects.
-use crate::finishing::fire_finished;
+use crate::finishing::fire_childless;
 use session::Field;
 use session::names;
 ghost use mathlib.Core.Path.{_≡_};
@@ -14,12 +14,16 @@ ghost use Rattle.rules.specs.Reading.{made};
 ghost use Rattle.rules.specs.Sound.{sound, outputs};
 ghost use Rattle.rules.specs.Checks.{destroyChecks};
 ghost use Rattle.rules.specs.Effects.{destroyEvent, destroyTask, destroyBlock, destroy};
+ghost use Rattle.rules.specs.Descendants.{climbed};
+ghost use Rattle.rules.specs.Step.{destroyClimbs};
+ghost use Rattle.effects.specs.Made.{Made};
 ghost use Rattle.effects.specs.OpenLinks.{NoMoreLinks};
 ghost use Rattle.retiring.specs.Cutting.{retired, linksCut};
 ghost use Rattle.laws.specs.Met.{met};
 ghost use Rattle.reading.specs.Holds.{Active};
 ghost use Rattle.holding.specs.Letting.{Doomed};
 ghost use Rattle.retiring.specs.TidyUnderWay.{Tidy};
+ghost use Rattle.retiring.specs.Children.{Childless};
 ghost use Rattle.retiring.specs.RetiringParts.{outputDestroyed, OutputLow, fate};
 
 // The open links of event e are cut; ready ones still deliver. Internal: callers have shown the length and the links' count.
@@ -61,16 +65,16 @@ fn destroy_output(s: &mut [u64], t: u64)
     }
 }
 
-// Destroys task t, and fires the finish events that waited for it. Internal: callers have shown the length, the handles, a
-// tidy session and the rule of outputs.
-fn destroy_task(s: &mut [u64], t: u64)
+// Destroys task t, which never ran and made no task, and fires the finish events that waited for it: the steps climbed, returned with
+// the session. Internal: callers have shown the length, the handles, a tidy session and the rule of outputs.
+fn destroy_task(s: &mut [u64], t: u64) -> u64
     requires { ⌜ (words ≤ length (now s)) × (t ≤ mostObjects) × Tidy (read (now s)) × OutputLow (read (now s)) t
-        × holds (made (read (now s)) t) × holds (outputs (read (now s))) ⌝ }
-    ensures { λ r. ⌜ Becomes s (destroyTask (was s) t) ⌝ }
+        × holds (made (read (now s)) t) × holds (outputs (read (now s))) × Childless (read (now s)) t ⌝ }
+    ensures { λ r. ⌜ Made (now (s .entry)) (now (s .exit)) (destroyTask (was s) t) (climbed (destroyTask (was s) t) t) r ⌝ }
 {
     session::set(s, Field::TaskState, t as usize, names::TASK_DESTROYED);
     destroy_output(s, t);
-    fire_finished(s, t);
+    fire_childless(s, t)
 }
 
 // The state of block b once it is destroyed: doomed while somebody holds it. Internal, as `is_held` is.
@@ -95,10 +99,11 @@ fn destroy_block(s: &mut [u64], t: u64, b: u64)
     session::set(s, Field::BlockState, b as usize, state);
 }
 
-// 8 destroy (caller, object), by its kind. Internal: callers have shown the length, a sound session and the checks.
-pub fn destroy(s: &mut [u64], caller: u64, h: u64)
+// 8 destroy (caller, object), by its kind: the steps climbed where it is a task, returned with the session, else 0. Internal: callers
+// have shown the length, a sound session and the checks.
+pub fn destroy(s: &mut [u64], caller: u64, h: u64) -> u64
     requires { ⌜ (words ≤ length (now s)) × holds (sound (read (now s))) × met (destroyChecks (read (now s)) caller h) ⌝ }
-    ensures { λ r. ⌜ Becomes s (destroy (was s) caller h) ⌝ }
+    ensures { λ r. ⌜ Made (now (s .entry)) (now (s .exit)) (destroy (was s) caller h) (destroyClimbs (was s) caller h) r ⌝ }
 {
     let kind = session::get(s, Field::Kind, h as usize);
     if kind == names::TEMPLATE {
@@ -108,15 +113,15 @@ pub fn destroy(s: &mut [u64], caller: u64, h: u64)
             h as usize,
             names::TEMPLATE_DESTROYED,
         );
-        return;
+        return 0;
     }
     if kind == names::TASK {
-        destroy_task(s, h);
-        return;
+        return destroy_task(s, h);
     }
     if kind == names::EVENT {
         destroy_event(s, h);
-        return;
+        return 0;
     }
     destroy_block(s, caller, h);
+    0
 }

@@ -11,6 +11,8 @@ ghost use Rattle.rules.specs.Formula.{holds};
 ghost use Rattle.rules.specs.Sound.{sound};
 ghost use Rattle.rules.specs.Checks.{endChecks};
 ghost use Rattle.rules.specs.Effects.{end};
+ghost use Rattle.rules.specs.Step.{endClimbs};
+ghost use Rattle.effects.specs.Made.{Made};
 ghost use Rattle.laws.specs.Met.{met};
 ghost use Rattle.retiring.specs.TidyUnderWay.{Tidy};
 ghost use Rattle.retiring.specs.RetiringParts.{outputFired, OutputLow};
@@ -28,13 +30,14 @@ fn fire_output(s: &mut [u64], t: u64, b: u64)
     }
 }
 
-// 12 end (task, block or 0). Internal: callers have shown the length, a sound session and the checks.
-pub fn end(s: &mut [u64], t: u64, b: u64)
+// 12 end (task, block or 0): the steps climbed, returned with the session. Internal: callers have shown the length, a sound session
+// and the checks.
+pub fn end(s: &mut [u64], t: u64, b: u64) -> u64
     requires { ⌜ (words ≤ length (now s)) × holds (sound (read (now s))) × met (endChecks (read (now s)) t b) ⌝ }
-    ensures { λ r. ⌜ Becomes s (end (was s) t b) ⌝ }
+    ensures { λ r. ⌜ Made (now (s .entry)) (now (s .exit)) (end (was s) t b) (endClimbs (was s) t b) r ⌝ }
 {
     holding::let_go_all(s, t);
     session::set(s, Field::TaskState, t as usize, names::ENDED);
     fire_output(s, t, b);
-    fire_finished(s, t);
+    fire_finished(s, t)
 }

@@ -1,4 +1,6 @@
 // What accepted operations that destroy and end do to a session's memory: a function for each, by its name.
+mod children;
+mod climbing;
 mod destroying;
 mod ending;
 mod finishing;

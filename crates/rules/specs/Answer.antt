@@ -12,7 +12,7 @@ unfoldable pub refusedOf : Answer → ℕ
 refusedOf (Accepted m) = 0
 refusedOf (Refused n) = n
 
--- .. and the handle or link made: "A refusal returns its number and 0".
+-- .. and the handle or link made, or the steps climbed: "A refusal returns its number and 0".
 unfoldable pub madeOf : Answer → ℕ
 madeOf (Accepted m) = m
 madeOf (Refused n) = 0

@@ -17,7 +17,7 @@ use Rattle.rules.specs.Effects.{satisfyEvent, satisfy, claim, newLink, d
 use Rattle.rules.specs.Effects.{fireFinished, destroyTask, destroyBlock, destroy, drops, bring, expire, deliver, grant}
 use Rattle.rules.specs.Effects.{start, end}
 use Rattle.rules.specs.Step.{rules, answer, after, outcome}
-use Rattle.rules.specs.Descendants.{under}
+use Rattle.rules.specs.Descendants.{under, climb}
 
 abbrev call : ℕ → List ℕ → Operation
 call code fields = record { code = code; fields = fields }
@@ -94,7 +94,7 @@ p8 =
 abbrev pub p8-then : Edge
 p8-then =
     record {
-      calls = p8 .calls ++ (done 10 (7 ∷ []) 0 ∷ done 11 (7 ∷ []) 0 ∷ done 12 (7 ∷ 0 ∷ []) 0 ∷ []);
+      calls = p8 .calls ++ (done 10 (7 ∷ []) 0 ∷ done 11 (7 ∷ []) 0 ∷ done 12 (7 ∷ 0 ∷ []) 3 ∷ []);
       shows = λ s. s EventState 5 ≐ fired;
     }
 
@@ -162,17 +162,44 @@ countedStays-then =
       shows = λ s. s EventState 3 ≐ destroyedFired and s Dropped 0 ≐ 1;
     }
 
+-- Document 02, E5. Task 4 runs, and so does 5, which it made: 4 ends and climbs no step, as 5 is live.
+abbrev pub climbsNone : Edge
+climbsNone =
+    runningMain
+    (done 1 (2 ∷ 0 ∷ []) 3 ∷ done 2 (2 ∷ 3 ∷ 17 ∷ 0 ∷ 0 ∷ []) 4 ∷ done 10 (4 ∷ []) 0 ∷ done 11 (4 ∷ []) 0
+    ∷ done 2 (4 ∷ 3 ∷ 17 ∷ 0 ∷ 0 ∷ []) 5 ∷ done 2 (4 ∷ 3 ∷ 17 ∷ 1 ∷ 1 ∷ []) 6 ∷ done 10 (5 ∷ []) 0 ∷ done 11 (5 ∷ []) 0
+    ∷ done 12 (4 ∷ 0 ∷ []) 0 ∷ [])
+    nothingMore
+
+-- 5 ends too, and climbs to 4 and no further: 6, which 4 made, is live. 6 is destroyed: to 4, and to main, which is live. Destroying
+-- a template climbs no step, and neither does main.
+abbrev pub climbsOn : Edge
+climbsOn =
+    record {
+      calls = climbsNone .calls ++ (done 12 (5 ∷ 0 ∷ []) 1 ∷ done 8 (2 ∷ 6 ∷ []) 2 ∷ done 8 (2 ∷ 3 ∷ []) 0 ∷ done 12 (2 ∷ 0 ∷ []) 0 ∷ []);
+      shows = nothingMore;
+    }
+
+-- Main ends first. The last task climbs to it, and it is the top.
+abbrev pub climbsToMain : Edge
+climbsToMain =
+    record {
+      calls = climbsNone .calls ++
+          (done 8 (2 ∷ 6 ∷ []) 1 ∷ done 12 (2 ∷ 0 ∷ []) 0 ∷ refused 12 (4 ∷ 0 ∷ []) 11 ∷ done 12 (5 ∷ 0 ∷ []) 2 ∷ []);
+      shows = nothingMore;
+    }
+
 abbrev pub edges : List Edge
 edges =
     p1 ∷ p2 ∷ p3 ∷ p4 ∷ p8 ∷ p8-then ∷ p9 ∷ p10 ∷ readyStays ∷ grantWhole ∷ firstClaim
-    ∷ countedGoes ∷ countedStays ∷ countedStays-then ∷ []
+    ∷ countedGoes ∷ countedStays ∷ countedStays-then ∷ climbsNone ∷ climbsOn ∷ climbsToMain ∷ []
 
 abbrev pub allMet : List Edge → Formula
 allMet [] = 0 ≐ 0
 allMet (e ∷ es) = isMet e and allMet es
 
 pub edges-met : holds (allMet edges)
-unfolding plays put change test ofType count under refusal new newTemplate newEvent newTask makeTask newBlock fire fireOne
+unfolding plays put change test ofType count under climb refusal new newTemplate newEvent newTask makeTask newBlock fire fireOne
     satisfySlot tally satisfyEvent satisfy claim newLink depend buryDoomed letGo release destroyEvent fireFinished destroyTask
     destroyBlock destroy drops bring expire deliver grant start end rules freshSession answer after outcome
 edges-met = passed (allMet edges) refl

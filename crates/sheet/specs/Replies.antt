@@ -23,7 +23,7 @@ reply-small s o h =
   where
     go : Called s o → step s o .made < 10000
     go (refused n w e) = rw w (omega arith)
-    go (accepted i n w e a) = rw w (let b = made-few s o a in omega arith)
+    go (accepted i n w e a) = rw w (let b = made-few s o a i in omega arith)
 
 -- an operation with one field makes nothing
 pub reply-nothing : (s : Session) (o : Operation) → fieldCount (o .code) ≡ 1 → step s o .made ≡ 0

@@ -143,12 +143,6 @@ impl Memory {
         self.after(refused, made)
     }
 
-    /// Whether the library does not know the code: a fresh session is written to ask.
-    pub fn is_without(&mut self, code: u64) -> bool {
-        self.fresh();
-        self.apply(&Operation { code, fields: [0; 5] }).refused == 6
-    }
-
     /// One operation on words that are known to be a sound session: `sound` said so, or they are `Kept`.
     pub fn apply_sound(&mut self, operation: &Operation) -> Answer {
         assert!(self.known.get() != Known::Nothing, "apply_sound on words that are not known to be sound");

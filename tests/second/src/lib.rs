@@ -2,13 +2,14 @@
 //!
 //! One idea a file. The doc comments quote the sentence of document 01 that the code follows; "reading n" is section 7
 //! of the design. The class report follows requests E1 and E2 of document 02, counted events and the editions
-//! request E4.
+//! request E4, the steps climbed by an end request E5.
 
 pub mod call;
 pub mod census;
 pub mod checks;
 pub mod class;
 pub mod classes;
+pub mod climb;
 pub mod counts;
 pub mod descent;
 pub mod edition;
@@ -16,6 +17,7 @@ pub mod hold;
 pub mod lines;
 pub mod link;
 pub mod mode;
+pub mod nested;
 pub mod number;
 pub mod object;
 pub mod operation;

@@ -14,6 +14,7 @@ pub const MAX_FIELDS: usize = 5;
 #[derive(Clone, Copy, Debug, PartialEq, Eq)]
 pub struct Answer {
     pub refused: u32,
+    /// For an end and for destroying a task, which make nothing, the steps climbed.
     pub made: u64,
 }
 

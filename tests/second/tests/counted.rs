@@ -142,9 +142,10 @@ fn dropped_deliveries_count() {
     for (link, destination) in [(1, 5), (2, 7), (3, 8)] {
         accept(&mut session, &[5, 2, 3, destination, 0, 1], link);
     }
-    for call in [&[6, 2, 5, 0, 0][..], &[8, 2, 7], &[6, 2, 8, 0, 0], &[6, 2, 3, 0, 0]] {
-        accept(&mut session, call, 0);
-    }
+    accept(&mut session, &[6, 2, 5, 0, 0], 0);
+    accept(&mut session, &[8, 2, 7], 1);
+    accept(&mut session, &[6, 2, 8, 0, 0], 0);
+    accept(&mut session, &[6, 2, 3, 0, 0], 0);
     for link in 1..=3 {
         assert_eq!((state(&session, 3), session.dropped), (EventState::Fired, link - 1));
         accept(&mut session, &[9, link], 0);

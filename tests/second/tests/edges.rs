@@ -67,8 +67,8 @@ fn p8_a_live_grandchild() {
     accept(&mut session, &[12, 6, 0], 0);
     accept(&mut session, &[12, 4, 1], 0);
     assert!(!fired(&session, 5) && !fired(&session, 7));
-    // One operation fires both; here the destroying of the grandchild.
-    accept(&mut session, &[8, 2, 8], 0);
+    // One operation fires both; here the destroying of the grandchild, which climbs to 6, to 4 and to main.
+    accept(&mut session, &[8, 2, 8], 3);
     assert!(fired(&session, 5) && fired(&session, 7));
     assert_eq!(session.event(5).unwrap().payload, 0);
 }
@@ -129,7 +129,7 @@ fn a_doomed_block() {
     accept(&mut session, &[11, 4], 0);
     accept(&mut session, &[7, 4, 1], 0);
     refuse(&mut session, &[7, 4, 1], 11);
-    accept(&mut session, &[12, 4, 0], 0);
+    accept(&mut session, &[12, 4, 0], 1);
     assert_eq!(session.task(4).unwrap().state, TaskState::Ended);
 }
 

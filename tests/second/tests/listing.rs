@@ -1,4 +1,4 @@
-//! Whole sheets whose output document 01 gives, and the cases of E4.
+//! Whole sheets whose output document 01 gives, and the cases of E4 and E5.
 
 use second::run_sheet;
 
@@ -27,6 +27,17 @@ fn the_cases_of_e4() {
         b"1 0 0\n2 0 0\n3 0 3\n4 0 4\n5 0 5\n6 0 1\n7 24 0\n8 0 0\n9 14 0\n10 0 0\n11 11 0\n12 11 0\n13 11 0\n2 0 0\n";
     assert_eq!(run_sheet(&sheet), output);
     assert_eq!(run_sheet(&[1, 13, 2, 1]), b"1 6 0\n1 0 0\n");
+}
+
+/// The case named E5: task 4 ends with task 5 live, which it made; 5 then climbs to 4 and to main.
+#[test]
+fn the_case_of_e5() {
+    let sheet = [
+        1, 10, 2, 11, 2, 1, 2, 0, 2, 2, 3, 17, 0, 0, 10, 4, 11, 4, 2, 4, 3, 17, 0, 0, 10, 5, 11, 5, 12, 4, 0, 12, 5, 0,
+        12, 2, 0,
+    ];
+    let output = b"1 0 0\n2 0 0\n3 0 3\n4 0 4\n5 0 0\n6 0 0\n7 0 5\n8 0 0\n9 0 0\n10 0 0\n11 0 2\n12 0 0\n0 0 0\n";
+    assert_eq!(run_sheet(&sheet), output);
 }
 
 /// P7: "empty sheet: `0 3 0`, then `1 0 0`".

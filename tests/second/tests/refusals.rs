@@ -72,7 +72,7 @@ fn output_events() {
     refuse(&mut session, &[5, 2, 6, 5, 0, 1], 10);
     accept(&mut session, &[5, 2, 5, 6, 0, 1], 1);
     refuse(&mut session, &[9, 1], 16);
-    accept(&mut session, &[8, 2, 4], 0);
+    accept(&mut session, &[8, 2, 4], 1);
     refuse(&mut session, &[9, 1], 16);
     refuse(&mut session, &[5, 2, 5, 6, 0, 1], 11);
     assert_eq!(session.undelivered_links(), 0);
@@ -90,8 +90,11 @@ fn fired_events_that_are_gone() {
     for (link, source) in (1..).zip([5, 6, 7]) {
         accept(&mut session, &[5, 2, source, 8, 0, 1], link);
     }
-    for call in [&[10, 4][..], &[11, 4], &[12, 4, 1], &[6, 2, 6, 0, 0], &[6, 2, 7, 0, 0], &[6, 2, 7, 0, 1]] {
-        accept(&mut session, call, 0);
+    accept(&mut session, &[10, 4], 0);
+    accept(&mut session, &[11, 4], 0);
+    accept(&mut session, &[12, 4, 1], 1);
+    for call in [[6, 2, 6, 0, 0], [6, 2, 7, 0, 0], [6, 2, 7, 0, 1]] {
+        accept(&mut session, &call, 0);
     }
     for (link, source) in (1..).zip([5, 6, 7]) {
         refuse(&mut session, &[5, 2, source, 8, 0, 1], 11);

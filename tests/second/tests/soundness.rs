@@ -43,7 +43,7 @@ fn sample() -> Session {
     accept(&mut session, &[2, 2, 3, 0, 1, 1], 12);
     accept(&mut session, &[10, 12], 0);
     accept(&mut session, &[11, 12], 0);
-    accept(&mut session, &[12, 12, 0], 0);
+    accept(&mut session, &[12, 12, 0], 1);
     session
 }
 

@@ -2,21 +2,26 @@ use std::io::{self, Write};
 use std::path::Path;
 use std::{env, fs, process};
 
+use second::nested::nested_sheet;
 use second::sheets::random_sheet_of;
 use second::Edition;
 
-/// `generate SEED COUNT DIR [EDITION]`: the sheets 0 to COUNT - 1 of a seed, as files in DIR; with `-` for DIR, as lines
-/// of hexadecimal digits on standard output. They are of edition 1 if nothing is said.
+/// `generate SEED COUNT DIR [KIND]`: the sheets 0 to COUNT - 1 of a seed, as files in DIR; with `-` for DIR, as lines of
+/// hexadecimal digits on standard output. KIND is their edition, or `nested` for sheets of nested tasks. They are of
+/// edition 1 if nothing is said.
 fn main() -> io::Result<()> {
     let given: Vec<String> = env::args().skip(1).collect();
-    let (Some(seed), Some(count), Some(form), Some(edition)) =
-        (number(&given, 0), number(&given, 1), given.get(2), edition(&given))
+    let (Some(seed), Some(count), Some(form), Some(kind)) =
+        (number(&given, 0), number(&given, 1), given.get(2), kind(&given))
     else {
-        eprintln!("usage: generate SEED COUNT DIR [EDITION]   (- for DIR: hexadecimal lines on standard output)");
+        eprintln!("usage: generate SEED COUNT DIR [1|2|nested]   (- for DIR: hexadecimal lines on standard output)");
         process::exit(2);
     };
     for index in 0..count {
-        let sheet = random_sheet_of(edition, seed, index);
+        let sheet = match kind {
+            Kind::Of(edition) => random_sheet_of(edition, seed, index),
+            Kind::Nested => nested_sheet(seed, index),
+        };
         if form == "-" {
             let digits: String = sheet.iter().map(|byte| format!("{byte:02x}")).collect();
             writeln!(io::stdout(), "{digits}")?;
@@ -32,9 +37,15 @@ fn number(given: &[String], place: usize) -> Option<u64> {
     given.get(place)?.parse().ok()
 }
 
-fn edition(given: &[String]) -> Option<Edition> {
-    match given.len() {
-        3 => Some(Edition::First),
-        _ => Edition::try_from(number(given, 3)?).ok(),
+enum Kind {
+    Of(Edition),
+    Nested,
+}
+
+fn kind(given: &[String]) -> Option<Kind> {
+    match given.get(3).map(String::as_str) {
+        None => Some(Kind::Of(Edition::First)),
+        Some("nested") => Some(Kind::Nested),
+        Some(_) => Edition::try_from(number(given, 3)?).ok().map(Kind::Of),
     }
 }

@@ -12,7 +12,8 @@ use crate::object::*;
 use crate::session::Session;
 
 impl Session {
-    /// Carry out a call that passed every check; the handle or link made, or 0.
+    /// Carry out a call that passed every check; the handle or link made, for an end and for destroying a task the steps
+    /// climbed, or 0.
     pub(crate) fn perform(&mut self, call: &Call) -> u64 {
         match *call {
             Call::Template { count, .. } => self.add(Object::Template(Template { destroyed: false, count })),
@@ -25,6 +26,8 @@ impl Session {
             Call::Counted { count, .. } => self.add(Object::Event(Event::counted(count))),
             Call::Block { caller, hold } => self.make_block(caller, hold == 1),
             Call::Dependence { source, destination, slot, mode, .. } => self.depend(source, destination, slot, mode),
+            Call::Destroy { caller, object } => self.destroy(caller, object),
+            Call::End { task, block } => self.end(task, block),
             _ => {
                 self.carry_out(call);
                 0
@@ -32,16 +35,14 @@ impl Session {
         }
     }
 
-    /// The calls that make nothing.
+    /// The calls that make nothing and climb nowhere.
     fn carry_out(&mut self, call: &Call) {
         match *call {
             Call::Satisfy { event, block, slot, .. } => self.satisfy(event, slot, block),
             Call::Release { caller, block } => self.end_holds(|hold| hold.task == caller && hold.block == block),
-            Call::Destroy { caller, object } => self.destroy(caller, object),
             Call::Deliver { link } => self.deliver(link),
             Call::Grant { task } => self.grant(task),
             Call::Start { task } => self.set_state(task, TaskState::Running),
-            Call::End { task, block } => self.end(task, block),
             _ => (),
         }
     }

@@ -17,22 +17,30 @@ impl Session {
         }
     }
 
-    /// "End drops all holds. A plain task's output event fires with the returned block."
-    pub(super) fn end(&mut self, handle: u64, block: u64) {
+    /// "End drops all holds. A plain task's output event fires with the returned block." The steps climbed.
+    pub(super) fn end(&mut self, handle: u64, block: u64) -> u64 {
         self.end_holds(|hold| hold.task == handle);
         self.set_state(handle, TaskState::Ended);
         let plain = self.task(handle).filter(|task| !task.finish);
         if let Some(output) = plain.map(|task| task.output).filter(|output| *output != 0) {
             self.fire(output, block);
         }
-        self.fire_finished(handle);
+        self.leave(handle)
+    }
+
+    /// What comes of a task that has ended or was destroyed, with its ancestors: finish tasks' events fire, and "For end
+    /// and for destroying a task, the third number on the line becomes the steps climbed". Both ask for live descendants
+    /// after the operation, which are looked up once; events that fire change no task.
+    pub(super) fn leave(&mut self, handle: u64) -> u64 {
+        let below = self.live_below();
+        self.fire_finished(handle, &below);
+        self.steps_climbed(handle, &below)
     }
 
     /// "A finish task's fires with 0, in the operation (an end, or the destroying of a task) after which the task is
     /// ended and no descendant is live; one operation may fire several." Only the task that ended or went and its
     /// ancestors can have come to that.
-    pub(super) fn fire_finished(&mut self, last: u64) {
-        let below = self.live_below();
+    fn fire_finished(&mut self, last: u64, below: &[bool]) {
         let mut handle = last;
         while let Some(task) = self.task(handle) {
             let (creator, output) = (task.creator, task.output);

@@ -16,7 +16,7 @@ pub fn running() -> Session {
     session
 }
 
-/// The call is accepted and makes `made`; the session stays sound.
+/// The call is accepted and makes `made`, or climbs as far; the session stays sound.
 #[track_caller]
 pub fn accept(session: &mut Session, numbers: &[u64], made: u64) {
     assert_eq!(session.apply(&operation(numbers)), Answer { refused: 0, made }, "{numbers:?}");

@@ -1,5 +1,5 @@
 -- `engine::operations::destroy` meets its contract: the first check that fails, or what the effect makes.
-use mathlib.Core.Path.{refl, sym, _∙_}
+use mathlib.Core.Path.{sym, _∙_}
 use borrow.Author.Needs.{needs}
 use Rattle.session.specs.Table.{read}
 use Rattle.rules.specs.Checks.{destroyChecks}
@@ -39,8 +39,8 @@ returns-2 c =
     let a = c .before .before .before .before .before .before .before .before .args in
     let e = sym (c .before .before .before .before .before .destroy-refusal .ensures)
     ∙ c .before .before .before .before .if1 .left in
-    played-accepted destroyRule _ (a .s .now) _ _ e refl
-    (c .before .before .destroy .ensures)
+    played-accepted destroyRule _ (a .s .now) _ _ e
+    (c .before .before .destroy .ensures .answer) (c .before .before .destroy .ensures .wrote)
 
 pub destroy-spec : {M : Type 1} → statement M
 destroy-spec = tie.close (tie.spec destroy-refusal-requires same-length returns destroy-requires same-length-2 returns-2)

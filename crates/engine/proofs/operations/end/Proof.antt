@@ -1,5 +1,5 @@
 -- `engine::operations::end` meets its contract: the first check that fails, or what the effect makes.
-use mathlib.Core.Path.{refl, sym, _∙_}
+use mathlib.Core.Path.{sym, _∙_}
 use borrow.Author.Needs.{needs}
 use Rattle.session.specs.Table.{read}
 use Rattle.rules.specs.Checks.{endChecks}
@@ -39,8 +39,8 @@ returns-2 c =
     let a = c .before .before .before .before .before .before .before .before .args in
     let e = sym (c .before .before .before .before .before .end-refusal .ensures)
     ∙ c .before .before .before .before .if1 .left in
-    played-accepted endRule _ (a .s .now) _ _ e refl
-    (c .before .before .end .ensures)
+    played-accepted endRule _ (a .s .now) _ _ e
+    (c .before .before .end .ensures .answer) (c .before .before .end .ensures .wrote)
 
 pub end-spec : {M : Type 1} → statement M
 end-spec = tie.close (tie.spec end-refusal-requires same-length returns end-requires same-length-2 returns-2)

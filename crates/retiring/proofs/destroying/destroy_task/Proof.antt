@@ -1,15 +1,20 @@
 -- `retiring::destroying::destroy_task` meets its contract: state, output and finish events, one behind the other (`wrote-next`),
--- are `destroyTask` (`destroyTask-parts`); the first two leave it tidy, and only what is above t to finish (`only-above`).
+-- are `destroyTask` (`destroyTask-parts`); the first two leave it tidy, t not live (`destroyed-over`) and without a child, and only what
+-- is above t to finish (`only-above`). Firing changes nothing of the climb (`climbed-fired`).
+use mathlib.Core.Path.{sym, ap, _∙_}
 use native.Mathlib.Omega.{arith}
 use denote.Ref.{now}
-use Rattle.session.specs.Table.{read, put}
+use Rattle.session.specs.Table.{Session, read, put}
 use Rattle.session.specs.Names.{taskDestroyed}
 use Rattle.session.specs.declared.Field.the-variants.{TaskState}
 use Rattle.rules.specs.Effects.{fireFinished}
+use Rattle.rules.specs.Descendants.{climbed}
 use Rattle.laws.specs.Puts.{wrote-next}
 use Rattle.retiring.specs.TidyUnderWay.{tidy-state}
 use Rattle.retiring.specs.RetiringParts.{outputDestroyed, tidy-outputDestroyed, low-state, destroyTask-parts}
-use Rattle.retiring.specs.Climb.{only-above, own-state, own-destroyed}
+use Rattle.retiring.specs.RetiringParts.{destroyed-over}
+use Rattle.retiring.specs.Climb.{only-above, own-state, own-destroyed, childless-own}
+use Rattle.retiring.specs.Steps.{climbed-fired}
 use borrow.Author.Needs.{needs}
 use Rattle.retiring.proofs.destroying.destroy_task.Statement.{statement}
 use Rattle.retiring.proofs.destroying.destroy_task.Tie as tie
@@ -27,13 +32,13 @@ destroy-output-requires c κs =
     let w = f .set .ensures in (
       omega (arith, w .same-length, p .0),
       p .1,
-      rw (← w .reading) at (tidy-state s (p .2) (a .t) taskDestroyed),
+      rw (← w .reading) at (tidy-state s (p .2) (a .t) taskDestroyed (omega arith)),
       rw
           (← w .reading) at (low-state s (a .t) taskDestroyed (p .3)),
     )
 
-fire-finished-requires : tie.Need-fire-finished-requires
-fire-finished-requires c κs =
+fire-childless-requires : tie.Need-fire-childless-requires
+fire-childless-requires c κs =
     let g = c .before .before .before in
     let f = g .before .before .before .before in
     let x = f .before .before .before in
@@ -45,9 +50,12 @@ fire-finished-requires c κs =
     let own = own-destroyed s (a .t) r (own-state s (a .t) taskDestroyed) in (
       omega (arith, w .same-length, p .0),
       rw (← w .reading) at
-          (tidy-outputDestroyed r (a .t) (tidy-state s (p .2) (a .t) taskDestroyed)),
+          (tidy-outputDestroyed r (a .t) (tidy-state s (p .2) (a .t) taskDestroyed (omega arith))),
+      p .4 .0,
+      rw (← w .reading) at (destroyed-over s (a .t)),
       rw (← w .reading) at
           (only-above s (outputDestroyed r (a .t)) (a .t) (p .2) (p .5) own (p .4)),
+      rw (← w .reading) at (childless-own s (outputDestroyed r (a .t)) (a .t) own (p .6)),
     )
 
 same-length : tie.Need-same-length
@@ -59,11 +67,18 @@ returns c =
     let g = h .before .before .before .before in
     let f = g .before .before .before .before in
     let a = f .before .before .before .args in
-    rw (← destroyTask-parts (read (now (a .s))) (a .t))
-    (wrote-next fireFinished (wrote-next (λ r. outputDestroyed r (a .t)) (f .set .ensures) (g .destroy-output .ensures))
-    (h .fire-finished .ensures))
+    let s = read (now (a .s)) in
+    let q = outputDestroyed (put s TaskState (a .t) taskDestroyed) (a .t) in
+    let w = wrote-next (λ r. outputDestroyed r (a .t)) (f .set .ensures) (g .destroy-output .ensures) in
+    let made = h .fire-childless .ensures in
+    record {
+      wrote = rw (← destroyTask-parts s (a .t)) (wrote-next fireFinished w (made .wrote));
+      answer =
+          made .answer ∙ ap (λ (r : Session). climbed r (a .t)) (w .reading) ∙ sym (climbed-fired q (a .t))
+          ∙ ap (λ (r : Session). climbed r (a .t)) (destroyTask-parts s (a .t));
+    }
 
 pub destroy-task-spec : {M : Type 1} → statement M
 destroy-task-spec =
     tie.close
-    (tie.spec set-requires destroy-output-requires fire-finished-requires same-length returns)
+    (tie.spec set-requires destroy-output-requires fire-childless-requires same-length returns)

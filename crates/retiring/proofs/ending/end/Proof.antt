@@ -1,16 +1,20 @@
 -- `retiring::ending::end` meets its contract: the four parts, one behind the other (`wrote-next`), are `end` (`end-parts`); the
--- first three leave it tidy (`tidy-ending`, `tidy-outputFired`), and only what is above t to finish (`only-above`).
+-- first three leave it tidy (`tidy-ending`, `tidy-outputFired`), t not live (`ended-over`), and only what is above t to finish
+-- (`only-above`). Firing changes nothing of the climb (`climbed-fired`).
+use mathlib.Core.Path.{sym, ap, _∙_}
 use native.Mathlib.Omega.{arith}
 use denote.Ref.{now}
-use Rattle.session.specs.Table.{read, put}
+use Rattle.session.specs.Table.{Session, read, put}
 use Rattle.session.specs.Names.{ended}
 use Rattle.session.specs.declared.Field.the-variants.{TaskState}
 use Rattle.rules.specs.Effects.{fireFinished}
+use Rattle.rules.specs.Descendants.{climbed}
 use Rattle.laws.specs.Puts.{wrote-next}
 use Rattle.holding.specs.SoundHolds.{unheld, unmarked, active}
 use Rattle.retiring.specs.RetiringParts.{retirable, ending, outputFired, tidy-outputFired, tidy-ending, low-ending}
-use Rattle.retiring.specs.RetiringParts.{end-parts}
+use Rattle.retiring.specs.RetiringParts.{end-parts, ended-over}
 use Rattle.retiring.specs.Climb.{only-above, own-ending, own-fired}
+use Rattle.retiring.specs.Steps.{climbed-fired}
 use borrow.Author.Needs.{needs}
 use Rattle.retiring.proofs.ending.end.Statement.{statement}
 use Rattle.retiring.proofs.ending.end.Tie as tie
@@ -61,6 +65,8 @@ fire-finished-requires c κs =
     let own = own-fired s (a .t) (ending s (a .t)) (own-ending s (a .t)) (a .b) in (
       omega (arith, w .same-length, p .0),
       rw (← w .reading) at (tidy-outputFired (ending s (a .t)) (a .t) (a .b) (tidy-ending s (a .t) (q .tidy))),
+      p .2 .0 .0 .0,
+      rw (← w .reading) at (ended-over s (a .t) (a .b)),
       rw (← w .reading) at
           (only-above s (outputFired (ending s (a .t)) (a .t) (a .b)) (a .t) (q .tidy) (q .outputs) own (p .2 .0 .0)),
     )
@@ -75,11 +81,17 @@ returns c =
     let g = h .before .before .before .before in
     let f = g .before .before .before .before in
     let a = f .before .before .before .args in
-    rw (← end-parts (read (now (a .s))) (a .t) (a .b))
-    (wrote-next fireFinished
-    (wrote-next (λ r. outputFired r (a .t) (a .b))
-    (wrote-next (λ r. put r TaskState (a .t) ended) (f .let-go-all .ensures) (g .set .ensures)) (h .fire-output .ensures))
-    (k .fire-finished .ensures))
+    let s = read (now (a .s)) in
+    let q = outputFired (ending s (a .t)) (a .t) (a .b) in
+    let w = wrote-next (λ r. outputFired r (a .t) (a .b))
+    (wrote-next (λ r. put r TaskState (a .t) ended) (f .let-go-all .ensures) (g .set .ensures)) (h .fire-output .ensures) in
+    let made = k .fire-finished .ensures in
+    record {
+      wrote = rw (← end-parts s (a .t) (a .b)) (wrote-next fireFinished w (made .wrote));
+      answer =
+          made .answer ∙ ap (λ (r : Session). climbed r (a .t)) (w .reading) ∙ sym (climbed-fired q (a .t))
+          ∙ ap (λ (r : Session). climbed r (a .t)) (end-parts s (a .t) (a .b));
+    }
 
 pub end-spec : {M : Type 1} → statement M
 end-spec =

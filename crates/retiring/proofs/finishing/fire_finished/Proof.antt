@@ -1,65 +1,54 @@
--- `retiring::finishing::fire_finished` meets its contract: only what is above the first that waits can finish (`only-narrowed`):
--- with none nothing is written (`none-above`), alone it is fired (`one-fires`), else `fire_above` fires what finishes.
-use native.Mathlib.Omega.{arith}
+-- `retiring::finishing::fire_finished` meets its contract: with a live child nothing finishes (`busy-none`) and there is no step
+-- (`busy-steps`); without a child (`no-child`) `fire_childless` does both, and else `fire_above`.
+use mathlib.Core.Path.{sym, _∙_}
 use denote.Ref.{now}
 use Rattle.session.specs.Table.{read}
 use Rattle.session.specs.TableLaws.{wrote-none}
-use Rattle.retiring.specs.Finish.{one-fires}
-use Rattle.retiring.specs.Climb.{event-made, none-above, only-narrowed}
+use Rattle.rules.specs.FormulaLaws.{passed, failed}
+use Rattle.retiring.specs.Children.{live-child, no-child}
+use Rattle.retiring.specs.Steps.{busy-none, busy-steps}
 use borrow.Author.Needs.{needs}
 use Rattle.retiring.proofs.finishing.fire_finished.Statement.{statement}
 use Rattle.retiring.proofs.finishing.fire_finished.Tie as tie
 
-first-waiting-requires : tie.Need-first-waiting-requires
-first-waiting-requires c κs = search needs
+has-child-requires : tie.Need-has-child-requires
+has-child-requires c κs = search needs
+
+has-child-requires-2 : tie.Need-has-child-requires-2
+has-child-requires-2 c κs = search needs
 
 same-length : tie.Need-same-length
 same-length c = search needs
 
 returns : tie.Need-returns
 returns c =
-    let x = c .before .before .before .before in
-    let o = only-narrowed (read (now (x .args .s))) (x .args .t) _ (x .pre .2) (c .before .first-waiting .ensures .0) in
-    rw (none-above (read (now (x .args .s))) (rw (c .if1 .taken) at o)) (wrote-none _)
-
-fires-alone-requires : tie.Need-fires-alone-requires
-fires-alone-requires c κs =
-    let one = c .before in
-    let w = one .before in
-    let x = w .before .before .before in
+    let x = c .before .before .before .before .before .before .before in
     let p = x .pre in
-    let o = only-narrowed (read (now (x .args .s))) (x .args .t) _ (p .2) (w .first-waiting .ensures .0) in
-    (p .0, p .1, omega (arith, one .if1 .left), o, w .first-waiting .ensures .1 (one .if1 .left))
+    let s = read (now (x .args .s)) in
+    let t = x .args .t in
+    let b = live-child s (p .1) t (p .2) (passed _ (sym (c .before .has-child2 .ensures) ∙ c .if2 .taken)) in
+    record {
+      wrote = rw (busy-none s (p .1) t (p .4 .known) (p .4) b) (wrote-none _);
+      answer = sym (busy-steps s (p .1) t (p .4 .known) (p .3) b);
+    }
 
-add-fire-one : tie.Need-add-fire-one
-add-fire-one c = search needs
-
-fire-one-requires : tie.Need-fire-one-requires
-fire-one-requires c κs =
-    let two = c .before in
-    let one = two .before .before .before in
-    let w = one .before in
-    let x = w .before .before .before in
-    let p = x .pre in
-    let m = event-made (read (now (x .args .s))) (p .1) _ (w .first-waiting .ensures .1 (one .if1 .left) .0) in
-    (p .0, omega (arith, m .1, p .1 .frame .few), p .1 .frame .few-links, p .1 .no-more)
+fire-above-requires : tie.Need-fire-above-requires
+fire-above-requires c κs = search needs
 
 same-length-2 : tie.Need-same-length-2
 same-length-2 c = search needs
 
 returns-2 : tie.Need-returns-2
-returns-2 c =
-    let two = c .before .before .before .before in
-    let x = two .before .before .before .before .before .before .before in
-    let a = two .before .fires-alone .ensures (two .if2 .taken) in
-    rw (← one-fires (read (now (x .args .s))) _ (a .there) (a .alone)) (c .before .before .fire-one .ensures)
+returns-2 c = search needs
 
-fire-above-requires : tie.Need-fire-above-requires
-fire-above-requires c κs =
-    let w = c .before .before .before .before .before in
-    let x = w .before .before .before in
+fire-childless-requires : tie.Need-fire-childless-requires
+fire-childless-requires c κs =
+    let one = c .before in
+    let x = one .before .before .before .before in
     let p = x .pre in
-    (p .0, p .1, only-narrowed (read (now (x .args .s))) (x .args .t) _ (p .2) (w .first-waiting .ensures .0))
+    let s = read (now (x .args .s)) in
+    let none = no-child s (p .1) (x .args .t) (failed _ (sym (one .before .has-child .ensures) ∙ one .if1 .left)) in
+    (p .0, p .1, p .2, p .3, p .4, none)
 
 same-length-3 : tie.Need-same-length-3
 same-length-3 c = search needs
@@ -71,14 +60,13 @@ pub fire-finished-spec : {M : Type 1} → statement M
 fire-finished-spec =
     tie.close
     (tie.spec
-    first-waiting-requires
+    has-child-requires
+    has-child-requires-2
     same-length
     returns
-    fires-alone-requires
-    add-fire-one
-    fire-one-requires
+    fire-above-requires
     same-length-2
     returns-2
-    fire-above-requires
+    fire-childless-requires
     same-length-3
     returns-3)

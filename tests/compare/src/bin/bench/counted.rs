@@ -1,13 +1,9 @@
-//! What calls about counted events cost, beside the same calls about stickies: each call is timed by itself.
+//! What calls about counted events cost, beside the same calls about stickies.
 
-use std::array;
-
-use compare::layout::WORDS;
 use compare::stages::Grown;
-use compare::Memory;
 use second::Operation;
 
-use crate::by_operation::{batch_costs, cells};
+use crate::rows::{print_rows, row_costs, Costs};
 
 /// Events of either type, and links from each: as many as a counted one is made for.
 const EVENTS: u64 = 4;
@@ -30,41 +26,15 @@ const LAST: usize = 5;
 const DELIVER_STICKY: usize = 6;
 const NO_ROW: usize = ROWS.len();
 
-/// Nanoseconds a call, by row, of the proved engine and of the second one.
-type Costs = [[f64; ROWS.len()]; 2];
-
-/// Nothing for a library from before there were counted events, so that the other tables can be compared with it.
 pub fn print_table(sizes: [(u64, u64); 2]) {
-    if Memory::new(vec![0; WORDS]).is_without(13) {
-        return println!("no counted events in this library");
-    }
-    let [less, more] = sizes.map(|(objects, links)| measure(objects, links));
-    let [few, many] = sizes.map(|(objects, _)| objects);
-    println!(
-        "| about counted events | apply_sound, ns at {few} | at {many} | times | second, ns at {few} | at {many} | times |"
-    );
-    println!("|---|---|---|---|---|---|---|");
-    for (row, name) in ROWS.iter().enumerate() {
-        let cells = [0, 1].map(|engine| cells(Some(less[engine][row]), Some(more[engine][row])));
-        println!("| {name} | {} | {} |", cells[0], cells[1]);
-    }
+    print_rows("about counted events", ROWS, sizes, measure);
 }
 
 /// Calls from a session that has so many objects and links in the end.
-fn measure(objects: u64, links: u64) -> Costs {
+fn measure(objects: u64, links: u64) -> Costs<{ ROWS.len() }> {
     let mut grown = Grown::to(11, objects - 2 * EVENTS - 1, links - 2 * EVENTS * LINKS);
     let calls = timed_calls(&mut grown);
-    let operations: Vec<Operation> = calls.iter().map(|(_, call)| *call).collect();
-    let (answers, costs) = batch_costs(&grown, &operations);
-    assert!(answers.iter().all(|answer| answer.refused == 0), "a call is refused");
-    costs.map(|costs| {
-        let mean = |row: usize| {
-            let of_row = calls.iter().zip(&costs).filter(|((of, _), _)| *of == row);
-            let nanos: Vec<f64> = of_row.map(|(_, cost)| cost.as_nanos() as f64).collect();
-            nanos.iter().sum::<f64>() / nanos.len() as f64
-        };
-        array::from_fn(mean)
-    })
+    row_costs(&grown, &calls, |_, answer| answer.refused == 0)
 }
 
 /// Each call with its row. The links lead to an idempotent event that has fired, so that a delivery does no more there.

@@ -1,8 +1,10 @@
 mod by_operation;
 mod classes;
+mod climbs;
 mod counted;
 mod passes;
 mod processes;
+mod rows;
 mod sheets;
 
 use std::env;
@@ -63,6 +65,8 @@ fn main() {
     by_operation::print_table([(64, 256), (512, 2_048)]);
     println!();
     counted::print_table([(64, 256), (512, 2_048)]);
+    println!();
+    climbs::print_table([(64, 256), (512, 2_048)]);
     println!();
     sheets::print_tables();
     println!();
