@@ -145,7 +145,6 @@ tidy-fired s m t =
       frame = t .frame;
       no-more = t .no-more;
       open-empty = λ e k o. after e k o (decide (getD m e 0 ≐ 1));
-      states = t .states;
     }
   where
     after : (e : ℕ) → s Kind e ≡ event → choose (getD m e 0 ≐ 1) fired (s EventState e) ≡ eventOpen → Case (getD m e 0 ≐ 1)

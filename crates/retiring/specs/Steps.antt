@@ -1,10 +1,10 @@
 -- The steps climbed on the walk upwards, and what stops it.
 use Prim.Native.Nat.{ℕ, _+_, _-_, _≤_}
-use mathlib.Core.Path.{_≡_, refl, _∙_}
+use mathlib.Core.Path.{_≡_, refl, subst}
+use mathlib.Core.Bool.{Bool, true, false}
 use mathlib.Core.List.{List}
 use mathlib.Core.Logic.{_⊎_, inl, inr}
 use native.Mathlib.Omega.{arith}
-use native.Mathlib.Decide.{decLt}
 use Rattle.session.specs.Table.{Session, change}
 use Rattle.session.specs.declared.Field.the-variants.{Objects, TaskState, TaskCreator}
 use Rattle.session.specs.Names.{running}
@@ -33,6 +33,11 @@ climbed-fired s t = refl
 -- the creator of h, if there is one, is not over
 abbrev pub StopsAbove : Session → ℕ → Type 0
 StopsAbove s h = 1 ≤ s TaskCreator h → holds (isOver s (s TaskCreator h)) → ⊥
+
+-- whether the climb from h stops at its creator, or the creator is over too
+pub record StopsTold (s : Session) (h : ℕ) (r : Bool) : Type 0 where
+  pub stops : r ≡ true → StopsAbove s h
+  pub goes-on : r ≡ false → (1 ≤ s TaskCreator h) × holds (isOver s (s TaskCreator h))
 
 module _ (s : Session) (x : Tidy s) (h : ℕ) (l : h ≤ s Objects 0) where
   abbrev c : ℕ → ℕ
@@ -98,3 +103,14 @@ module _ (s : Session) (x : Tidy s) (h : ℕ) (l : h ≤ s Objects 0) where
   -- and where h is busy none can
   pub busy-none : OnlyAbove s h → holds (busy s h) → fireFinished s ≡ s
   busy-none o b = fires-nothing s (λ e f. finishes-by-name s e f .idle (busy-above s x h l (e - 1) b (o .reached e f)))
+
+  -- where the event of h does not finish, only those above its creator, which is over, can
+  pub only-higher : OnlyAbove s h → holds (isOver s (c h)) → 1 ≤ c h → (holds (finishes s (h + 1)) → ⊥) → OnlyAbove s (c h)
+  only-higher o over m n = record { known = creator-made s x h l; reached = λ e f. go e f (step s x h l e f (o .reached e f) (λ q. q)) }
+    where
+      dead : s TaskState (c h) ≤ running → ⊥
+      dead live = over .0 (x .frame .makers h l m, live)
+
+      go : (e : ℕ) → holds (finishes s e) → (e ≡ h + 1) ⊎ Reached c (doneCreator s h) (e - 1) → Reached c (c h) (e - 1)
+      go e f (inl q) = absurd (n (subst (λ (k : ℕ). holds (finishes s k)) q f))
+      go e f (inr r) = rw (creator-done s h dead) at r

@@ -1,9 +1,8 @@
 // Walking upwards from a task that has ended or was destroyed.
-use crate::children::has_child;
+use crate::children::has_live_below;
 use session::Field;
 use session::names;
 ghost use mathlib.Core.Path.{_≡_};
-ghost use mathlib.Core.Bool.{true};
 ghost use Prim.Native.Nat.{_+_, _≤_};
 ghost use lib.ListN.{length};
 ghost use Rattle.session.specs.Names.{mostObjects, objectPlaces, running};
@@ -16,7 +15,7 @@ ghost use Rattle.ancestors.specs.Above.{Shows};
 ghost use Rattle.retiring.specs.TidyUnderWay.{Tidy};
 ghost use Rattle.retiring.specs.Finish.{waits};
 ghost use Rattle.retiring.specs.Climb.{Climbed, doneCreator};
-ghost use Rattle.retiring.specs.Steps.{StopsAbove, Walked};
+ghost use Rattle.retiring.specs.Steps.{StopsTold, Walked};
 
 // How far a walk has come: the steps climbed, and the event that it found to fire, 0 where there is none and a number past every
 // handle where there are more.
@@ -65,17 +64,17 @@ fn done_creator(s: &[u64], h: u64) -> u64
     c
 }
 
-// Whether it is plain that the creator of task h is not over: it is live, or has a live child. So too where h is main, which has none.
+// Whether a climb from task h stops at its creator: this is live or has a live descendant. So too where h is main, which has none.
 // Internal, as `task_waits` is.
 pub fn stops_above(s: &[u64], h: u64) -> bool
     requires { ⌜ (words ≤ length (now s)) × Tidy (read (now s)) × (h ≤ read (now s) Objects 0) ⌝ }
-    ensures { λ r. ⌜ (r ≡ true → StopsAbove (was s) h) ⌝ }
+    ensures { λ r. ⌜ StopsTold (was s) h r ⌝ }
 {
     let c = done_creator(s, h);
     if c == 0 {
         return true;
     }
-    has_child(s, c, names::RUNNING)
+    has_live_below(s, c)
 }
 
 // The first step of a climb from task h: none from main, which has no creator. Internal, as `task_waits` is.

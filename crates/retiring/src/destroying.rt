@@ -1,5 +1,5 @@
 // Destroying objects.
-use crate::finishing::fire_childless;
+use crate::finishing;
 use session::Field;
 use session::names;
 ghost use mathlib.Core.Path.{_≡_};
@@ -74,7 +74,7 @@ fn destroy_task(s: &mut [u64], t: u64) -> u64
 {
     session::set(s, Field::TaskState, t as usize, names::TASK_DESTROYED);
     destroy_output(s, t);
-    fire_childless(s, t)
+    finishing::fire_over(s, t, finishing::LEVELS)
 }
 
 // The state of block b once it is destroyed: doomed while somebody holds it. Internal, as `is_held` is.

@@ -1,5 +1,5 @@
 // Firing the output events of finish tasks that are done, and the steps climbed on the way.
-use crate::children::has_child;
+use crate::children::is_busy;
 use crate::climbing::Walk;
 use crate::climbing::climb;
 use crate::climbing::first_step;
@@ -20,9 +20,11 @@ ghost use Rattle.rules.specs.Descendants.{busy, climbed};
 ghost use Rattle.effects.specs.Made.{Made};
 ghost use Rattle.holding.specs.SweepRows.{row};
 ghost use Rattle.retiring.specs.TidyUnderWay.{Tidy};
-ghost use Rattle.retiring.specs.Children.{Childless};
 ghost use Rattle.retiring.specs.Finish.{fireRow, statesFired, readyRow, linksReady, Within};
 ghost use Rattle.retiring.specs.Climb.{OnlyAbove, OnlyOne};
+
+// How many levels up a climb is looked at without marks: each costs a pass over the objects, and marks cost two rows of them.
+pub const LEVELS: u64 = 2;
 
 // Event e is fired if it is marked. Internal: callers have shown the lengths and the handle.
 fn fire_marked(s: &mut [u64], fires: &[u64], e: u64)
@@ -120,10 +122,11 @@ fn fire_own(s: &mut [u64], t: u64)
     }
 }
 
-// As `fire_finished`, where t made no task: most often its creator is live or has a live child, and no marks are needed to tell.
-pub fn fire_childless(s: &mut [u64], t: u64) -> u64
+// As `fire_finished`, where t has no live descendant either. Most often the climb stops at its creator; where it goes on, and nothing
+// fires here, it is looked at from the creator in the same way, so many levels up, and then by marks.
+pub fn fire_over(s: &mut [u64], t: u64, levels: u64) -> u64
     requires { ⌜ (words ≤ length (now s)) × Tidy (read (now s)) × (1 ≤ t) × (read (now s) TaskState t ≤ running → ⊥)
-        × OnlyAbove (read (now s)) t × Childless (read (now s)) t ⌝ }
+        × OnlyAbove (read (now s)) t × (holds (busy (read (now s)) t) → ⊥) ⌝ }
     ensures { λ r. ⌜ Made (now (s .entry)) (now (s .exit)) (fireFinished (was s)) (climbed (was s) t) r ⌝ }
 {
     if stops_above(s, t) {
@@ -131,21 +134,25 @@ pub fn fire_childless(s: &mut [u64], t: u64) -> u64
         fire_own(s, t);
         return steps;
     }
-    fire_above(s, t)
+    if levels == 0 {
+        return fire_above(s, t);
+    }
+    if task_waits(s, t) {
+        return fire_above(s, t);
+    }
+    let c = session::get(s, Field::TaskCreator, t as usize);
+    fire_over(s, c, levels - 1) + 1
 }
 
-// Fires every output event that finishes, once task t has ended or was destroyed, and answers the steps climbed. Internal: callers
-// have shown the length, a tidy session, that t is not live, and that no event can finish but those of t and the tasks above it.
+// Fires every output event that finishes, once task t has ended, and answers the steps climbed. Internal: callers have shown the
+// length, a tidy session, that t is not live, and that no event can finish but those of t and the tasks above it.
 pub fn fire_finished(s: &mut [u64], t: u64) -> u64
     requires { ⌜ (words ≤ length (now s)) × Tidy (read (now s)) × (1 ≤ t) × (read (now s) TaskState t ≤ running → ⊥)
         × OnlyAbove (read (now s)) t ⌝ }
     ensures { λ r. ⌜ Made (now (s .entry)) (now (s .exit)) (fireFinished (was s)) (climbed (was s) t) r ⌝ }
 {
-    if has_child(s, t, names::TASK_DESTROYED) {
-        if has_child(s, t, names::RUNNING) {
-            return 0;
-        }
-        return fire_above(s, t);
+    if is_busy(s, t) {
+        return 0;
     }
-    fire_childless(s, t)
+    fire_over(s, t, LEVELS)
 }

@@ -1,14 +1,14 @@
--- `retiring::climbing::stops_above` meets its contract: no creator that is done stops the climb (`live-stops`), and so does one with a
--- live child, which is busy (`live-child`, `busy-stops`).
-use Prim.Native.Nat.{ℕ}
-use mathlib.Core.Path.{sym, _∙_}
+-- `retiring::climbing::stops_above` meets its contract: no creator that is done stops the climb (`live-stops`), and so does a busy one
+-- (`busy-stops`); any other is over (`creator-over`).
+use mathlib.Core.Path.{sym, subst, _∙_}
+use mathlib.Core.Bool.{Bool}
 use native.Mathlib.Omega.{arith}
 use denote.Ref.{now}
+use lib.Dec.{T}
 use Rattle.session.specs.Table.{read}
-use Rattle.rules.specs.FormulaLaws.{passed}
-use Rattle.retiring.specs.Children.{live-child}
+use Rattle.rules.specs.FormulaLaws.{passed, failed}
 use Rattle.retiring.specs.Climb.{done-low}
-use Rattle.retiring.specs.Steps.{live-stops, busy-stops}
+use Rattle.retiring.specs.Steps.{creator-over, live-stops, busy-stops}
 use borrow.Author.Needs.{needs}
 use Rattle.retiring.proofs.climbing.stops_above.Statement.{statement}
 use Rattle.retiring.proofs.climbing.stops_above.Tie as tie
@@ -19,11 +19,14 @@ done-creator-requires c κs = search needs
 returns : tie.Need-returns
 returns c =
     let x = c .before .before .before in
-    λ _. live-stops (read (now (x .args .s))) (x .pre .1) (x .args .h) (x .pre .2)
-    (sym (c .before .done-creator .ensures) ∙ c .if1 .taken)
+    let none = sym (c .before .done-creator .ensures) ∙ c .if1 .taken in
+    record {
+      stops = λ _. live-stops (read (now (x .args .s))) (x .pre .1) (x .args .h) (x .pre .2) none;
+      goes-on = λ q. absurd (subst (λ (b : Bool). T b) q tt);
+    }
 
-has-child-requires : tie.Need-has-child-requires
-has-child-requires c κs =
+has-live-below-requires : tie.Need-has-live-below-requires
+has-live-below-requires c κs =
     let x = c .before .before .before in
     let p = x .pre in
     let e = c .before .done-creator .ensures in
@@ -37,9 +40,13 @@ returns-2 c =
     let s = read (now (x .args .s)) in
     let p = x .pre in
     let e = one .before .done-creator .ensures in
-    λ q. busy-stops s (p .1) (x .args .h) (p .2)
-    (rw e at (live-child s (p .1) _ (omega (arith, one .if1 .left)) (passed _ (sym (c .has-child .ensures) ∙ q))))
-    (λ z. one .if1 .left (e ∙ z))
+    let some = one .if1 .left in
+    let d = creator-over s (p .1) (x .args .h) (p .2) (λ z. some (e ∙ z)) in
+    let told = c .has-live-below .ensures in
+    record {
+      stops = λ q. busy-stops s (p .1) (x .args .h) (p .2) (rw e at (passed _ (sym told ∙ q))) (λ z. some (e ∙ z));
+      goes-on = λ q. (omega (arith, some, e, d .0), ((λ live. d .1 (live .1)), rw (e ∙ d .0) at (failed _ (sym told ∙ q))));
+    }
 
 pub stops-above-spec : {M : Type 1} → statement M
-stops-above-spec = tie.close (tie.spec done-creator-requires returns has-child-requires returns-2)
+stops-above-spec = tie.close (tie.spec done-creator-requires returns has-live-below-requires returns-2)

@@ -14,6 +14,7 @@ use Rattle.retiring.specs.TidyUnderWay.{tidy-state}
 use Rattle.retiring.specs.RetiringParts.{outputDestroyed, tidy-outputDestroyed, low-state, destroyTask-parts}
 use Rattle.retiring.specs.RetiringParts.{destroyed-over}
 use Rattle.retiring.specs.Climb.{only-above, own-state, own-destroyed, childless-own}
+use Rattle.retiring.specs.Children.{childless-idle}
 use Rattle.retiring.specs.Steps.{climbed-fired}
 use borrow.Author.Needs.{needs}
 use Rattle.retiring.proofs.destroying.destroy_task.Statement.{statement}
@@ -32,13 +33,13 @@ destroy-output-requires c κs =
     let w = f .set .ensures in (
       omega (arith, w .same-length, p .0),
       p .1,
-      rw (← w .reading) at (tidy-state s (p .2) (a .t) taskDestroyed (omega arith)),
+      rw (← w .reading) at (tidy-state s (p .2) (a .t) taskDestroyed),
       rw
           (← w .reading) at (low-state s (a .t) taskDestroyed (p .3)),
     )
 
-fire-childless-requires : tie.Need-fire-childless-requires
-fire-childless-requires c κs =
+fire-over-requires : tie.Need-fire-over-requires
+fire-over-requires c κs =
     let g = c .before .before .before in
     let f = g .before .before .before .before in
     let x = f .before .before .before in
@@ -47,15 +48,17 @@ fire-childless-requires c κs =
     let s = read (now (a .s)) in
     let w = wrote-next (λ r. outputDestroyed r (a .t)) (f .set .ensures) (g .destroy-output .ensures) in
     let r = put s TaskState (a .t) taskDestroyed in
+    let q = outputDestroyed r (a .t) in
+    let tidy = tidy-outputDestroyed r (a .t) (tidy-state s (p .2) (a .t) taskDestroyed) in
     let own = own-destroyed s (a .t) r (own-state s (a .t) taskDestroyed) in (
       omega (arith, w .same-length, p .0),
-      rw (← w .reading) at
-          (tidy-outputDestroyed r (a .t) (tidy-state s (p .2) (a .t) taskDestroyed (omega arith))),
+      rw (← w .reading) at tidy,
       p .4 .0,
       rw (← w .reading) at (destroyed-over s (a .t)),
       rw (← w .reading) at
-          (only-above s (outputDestroyed r (a .t)) (a .t) (p .2) (p .5) own (p .4)),
-      rw (← w .reading) at (childless-own s (outputDestroyed r (a .t)) (a .t) own (p .6)),
+          (only-above s q (a .t) (p .2) (p .5) own (p .4)),
+      rw (← w .reading) at
+          (childless-idle q tidy (a .t) (childless-own s q (a .t) own (p .6))),
     )
 
 same-length : tie.Need-same-length
@@ -70,7 +73,7 @@ returns c =
     let s = read (now (a .s)) in
     let q = outputDestroyed (put s TaskState (a .t) taskDestroyed) (a .t) in
     let w = wrote-next (λ r. outputDestroyed r (a .t)) (f .set .ensures) (g .destroy-output .ensures) in
-    let made = h .fire-childless .ensures in
+    let made = h .fire-over .ensures in
     record {
       wrote = rw (← destroyTask-parts s (a .t)) (wrote-next fireFinished w (made .wrote));
       answer =
@@ -81,4 +84,4 @@ returns c =
 pub destroy-task-spec : {M : Type 1} → statement M
 destroy-task-spec =
     tie.close
-    (tie.spec set-requires destroy-output-requires fire-childless-requires same-length returns)
+    (tie.spec set-requires destroy-output-requires fire-over-requires same-length returns)
