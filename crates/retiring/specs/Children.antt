@@ -1,12 +1,13 @@
 -- The tasks that a task made, and its live descendants: a task that made none has no descendant.
 use Prim.Native.Nat.{ℕ, zero, suc, _+_, _≤_, _<_}
-use mathlib.Core.Path.{_≡_}
+use mathlib.Core.Path.{_≡_, subst}
 use mathlib.Core.Logic.{_⊎_, inl, inr}
 use native.Mathlib.Omega.{arith}
+use native.Mathlib.Decide.{decLt}
 use Rattle.session.specs.Table.{Session}
 use Rattle.session.specs.declared.Field.the-variants.{Objects, TaskState, TaskCreator}
-use Rattle.session.specs.Names.{resolved, running}
-use Rattle.rules.specs.Formula.{holds, test, Formula._and_}
+use Rattle.session.specs.Names.{resolved, running, taskDestroyed}
+use Rattle.rules.specs.Formula.{Formula, holds, test, Formula._≐_, Formula._≼_, Formula._and_, Formula.some}
 use Rattle.rules.specs.FormulaLaws.{test-same}
 use Rattle.rules.specs.Reading.{isLive}
 use Rattle.rules.specs.Descendants.{under, busy}
@@ -18,6 +19,31 @@ use Rattle.laws.specs.ByName.{sound-by-name}
 use Rattle.laws.specs.Conjuncts.{roots-by-name, Root.main-creator}
 use Rattle.reading.specs.Finding.{Passed}
 use Rattle.retiring.specs.TidyUnderWay.{Tidy}
+
+-- h made d, whose state is the last one given or an earlier one
+abbrev pub isChild : Session → ℕ → ℕ → ℕ → Formula
+isChild s h last d = s TaskCreator d ≐ h and s TaskState d ≼ last
+
+abbrev pub hasChild : Session → ℕ → ℕ → Formula
+hasChild s h last = some (s Objects 0 + 1) (isChild s h last)
+
+-- no handle before d is such a child
+abbrev pub NoneBefore : Session → ℕ → ℕ → ℕ → Type 0
+NoneBefore s h last d = (i : ℕ) → i < d → holds (isChild s h last i) → ⊥
+
+-- whoever was made by h is higher
+pub none-lower : (s : Session) (h last : ℕ) → Tidy s → 1 ≤ h → h ≤ s Objects 0 → NoneBefore s h last h
+none-lower s h last x m l i b q = let e = q .0 in let f = x .frame .falls i (omega arith) (omega arith) in omega arith
+
+-- one more handle looked at, and those up to the next that h made
+pub none-next : (s : Session) (h last d r : ℕ) → NoneBefore s h last d → (holds (isChild s h last d) → ⊥)
+    → Passed s TaskCreator h (d + 1) r → NoneBefore s h last r
+none-next s h last d r before n p i l q = go (decLt i d) (decLt d i)
+  where
+    go : Dec (i < d) → Dec (d < i) → ⊥
+    go (yes a) b = before i a q
+    go (no a) (yes b) = p .others i (omega arith) l (q .0)
+    go (no a) (no b) = let e : i ≡ d = omega arith in n (subst (λ (k : ℕ). holds (isChild s h last k)) e q)
 
 -- no task was made by h
 abbrev pub Childless : Session → ℕ → Type 0
@@ -39,9 +65,9 @@ module _ (s : Session) (x : Tidy s) (h : ℕ) where
   childless-idle none b =
       none-under (s TaskCreator) (s Objects 0) h (x .frame .falls) none (b .0) (b .0) (let l = b .1 in omega arith) (b .2 .1)
 
-  -- who was made by h is higher, and none from there on was
-  pub none-made : 1 ≤ h → h ≤ s Objects 0 → (r : ℕ) → s Objects 0 < r → Passed s TaskCreator h (h + 1) r → Childless s h
-  none-made m l r past p d b e = let f = x .frame .falls d b (omega arith) in p .others d (omega arith) (omega arith) e
+  -- every state is destroyed or an earlier one
+  pub no-child : (holds (hasChild s h taskDestroyed) → ⊥) → Childless s h
+  no-child n d l e = n (d, omega arith, (e, x .states d l))
 
 -- whether d descends from a, by its creator
 module _ (s : Session) (x : Tidy s) (d a : ℕ) (m : 1 ≤ a) (l : d ≤ s Objects 0) where
@@ -76,8 +102,14 @@ module _ (s : Session) (x : Tidy s) (d a : ℕ) (m : 1 ≤ a) (l : d ≤ s Objec
       test-same (under c d d a) (isLive s d and under c d d a) (λ u. ((x .frame .tasks d l (under-made c d a u), live), u)) (λ y. y .1)
 
   -- nobody lower does
-  pub none-lower : d < a → holds (under c d d a) → ⊥
-  none-lower b u = let z = under-lower s (x .frame .falls) d d a l u in omega arith
+  pub none-below : d < a → holds (under c d d a) → ⊥
+  none-below b u = let z = under-lower s (x .frame .falls) d d a l u in omega arith
+
+-- a live child makes a task busy
+pub live-child : (s : Session) → Tidy s → (h : ℕ) → 1 ≤ h → holds (hasChild s h running) → holds (busy s h)
+live-child s x h m (d, l, (e, live)) =
+    let f = x .frame .falls d (omega arith) (omega arith) in
+    (d, l, ((x .frame .tasks d (omega arith) (omega arith), live), below-here s x d h m (omega arith) e))
 
 -- a task that never ran made none: "every other task's creator is a lower task, running or ended"
 pub unstarted-childless : (s : Session) → holds (sound s) → (h : ℕ) → 1 ≤ h → s TaskState h ≤ resolved → Childless s h

@@ -145,6 +145,7 @@ tidy-fired s m t =
       frame = t .frame;
       no-more = t .no-more;
       open-empty = λ e k o. after e k o (decide (getD m e 0 ≐ 1));
+      states = t .states;
     }
   where
     after : (e : ℕ) → s Kind e ≡ event → choose (getD m e 0 ≐ 1) fired (s EventState e) ≡ eventOpen → Case (getD m e 0 ≐ 1)
@@ -164,9 +165,6 @@ waits-of s h x =
     let back : h + 1 - 1 ≡ h = omega arith in
     let f = finishes-by-name s (h + 1) x in
     (f .kind, (f .type, (f .unfired, (rw back at (f .finish), rw back at (f .over)))))
-
-pub finishes-idle : (s : Session) (h : ℕ) → holds (finishes s (h + 1)) → holds (busy s h) → ⊥
-finishes-idle s h x b = let back : h + 1 - 1 ≡ h = omega arith in finishes-by-name s (h + 1) x .idle (rw back b)
 
 pub finishes-waits : (s : Session) (h : ℕ) → (holds (busy s h) → ⊥) → test (waits s h) ≡ test (finishes s (h + 1))
 finishes-waits s h idle = go (decide (waits s h))

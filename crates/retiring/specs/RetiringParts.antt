@@ -69,7 +69,7 @@ unfolding put letGo buryDoomed change
 low-ending s t l = l
 
 pub tidy-ending : (s : Session) (t : ℕ) → Tidy s → Tidy (ending s t)
-tidy-ending s t x = tidy-state (letGo s t (λ k. 0 ≐ 0)) (tidy-letGo s x t (λ k. 0 ≐ 0)) t ended
+tidy-ending s t x = tidy-state (letGo s t (λ k. 0 ≐ 0)) (tidy-letGo s x t (λ k. 0 ≐ 0)) t ended (omega arith)
 
 -- what is done with the output event changes no task's state
 fired-keeps : (s : Session) (t b u : ℕ) → outputFired s t b TaskState u ≡ s TaskState u

@@ -9,7 +9,7 @@ use native.Mathlib.Decide.{decLt}
 use Rattle.session.specs.Table.{Session, put, change, read}
 use Rattle.session.specs.declared.Field.the-variants.{Objects, Links, Kind, TaskState, TaskCreator, EventState, EventPayload}
 use Rattle.session.specs.declared.Field.the-variants.{LinkSource, LinkState}
-use Rattle.session.specs.Names.{task, event, eventOpen, fired, destroyedUnfired, destroyedFired, linkOpen, ready, cut}
+use Rattle.session.specs.Names.{task, taskDestroyed, event, eventOpen, fired, destroyedUnfired, destroyedFired, linkOpen, ready, cut}
 use Rattle.session.specs.Names.{mostObjects, mostLinks}
 use Rattle.rules.specs.Formula.{Formula, holds, choose, Formula._≐_, Formula._and_}
 use Rattle.rules.specs.FormulaLaws.{Case, decide, choose-yes, choose-no, Case.it-does, Case.it-does-not}
@@ -19,7 +19,7 @@ use Rattle.laws.specs.Places.{Places, places, put-here, put-there, Places.one, 
 use Rattle.laws.specs.Rows.Name.{counts, kinds, taskParts, eventParts, roots, creators, links, freeLinks}
 use Rattle.laws.specs.Keeping.{Sound}
 use Rattle.laws.specs.ByName.{sound-by-name}
-use Rattle.laws.specs.Conjuncts.{roots-by-name, event-by-name, Root.main-creator, Event.paid}
+use Rattle.laws.specs.Conjuncts.{roots-by-name, event-by-name, task-by-name, Root.main-creator, Event.paid, Task.state-high}
 use Rattle.laws.specs.Under.{creators-fall}
 use Rattle.effects.specs.OpenLinks.{NoMoreLinks}
 use Rattle.effects.specs.Ready.{no-more-links}
@@ -43,10 +43,15 @@ frame-of s = Frame (s Objects 0) (s Links 0) (s Kind) (s TaskCreator) (s LinkSou
 abbrev pub OpenEmpty : Session → Type 0
 OpenEmpty s = (e : ℕ) → s Kind e ≡ event → s EventState e ≡ eventOpen → s EventPayload e ≡ 0
 
+-- every state of a task is destroyed or an earlier one
+abbrev pub StatesLow : Session → Type 0
+StatesLow s = (h : ℕ) → h ≤ s Objects 0 → s TaskState h ≤ taskDestroyed
+
 pub record Tidy (s : Session) : Type 0 where
   pub frame : frame-of s
   pub no-more : NoMoreLinks s
   pub open-empty : OpenEmpty s
+  pub states : StatesLow s
 
 module _ (ws : List ℕ) (good : holds (sound (read ws))) where
   abbrev s : Session
@@ -82,6 +87,13 @@ module _ (ws : List ℕ) (good : holds (sound (read ws))) where
       go (inl x) = x .0
       go (inr (other, (no-state, (no-creator, rest)))) = absurd (omega arith)
 
+  states-low : StatesLow s
+  states-low h l = go (r taskParts h (omega (arith, r counts .1 .0)))
+    where
+      go : holds (taskPart s h) → s TaskState h ≤ taskDestroyed
+      go (inl x) = task-by-name h s (x .0) (inl x) state-high
+      go (inr (other, (no-state, rest))) = omega arith
+
   open-empty : OpenEmpty s
   open-empty e k o = go (decLt (s Objects 0) e)
     where
@@ -109,17 +121,22 @@ module _ (ws : List ℕ) (good : holds (sound (read ws))) where
         };
         no-more = no-more-links ws good;
         open-empty = open-empty;
+        states = states-low;
       }
 
 -- what an operation leaves tidy
 module _ (s : Session) (x : Tidy s) where
-  pub tidy-state : (t v : ℕ) → Tidy (put s TaskState t v)
+  pub tidy-state : (t v : ℕ) → v ≤ taskDestroyed → Tidy (put s TaskState t v)
   unfolding put
-  tidy-state t v = record { frame = x .frame; no-more = x .no-more; open-empty = x .open-empty }
+  tidy-state t v low = record { frame = x .frame; no-more = x .no-more; open-empty = x .open-empty; states = λ h l. after h l (places t h) }
+    where
+      after : (h : ℕ) → h ≤ s Objects 0 → Places t h → put s TaskState t v TaskState h ≤ taskDestroyed
+      after h l (one q) = rw (put-here s TaskState t h v q) low
+      after h l (two n) = rw (put-there s TaskState t h v n) (x .states h l)
 
   pub tidy-letGo : (t : ℕ) (which : ℕ → Formula) → Tidy (letGo s t which)
   unfolding letGo buryDoomed change
-  tidy-letGo t which = record { frame = x .frame; no-more = x .no-more; open-empty = x .open-empty }
+  tidy-letGo t which = record { frame = x .frame; no-more = x .no-more; open-empty = x .open-empty; states = x .states }
 
   tidy-links : (f : ℕ → Formula) (v : ℕ) → ((l : ℕ) → holds (f l) → s LinkState l ≡ linkOpen) → (l : ℕ) → s Links 0 < l
       → choose (f l) v (s LinkState l) ≡ 0
@@ -135,6 +152,7 @@ module _ (s : Session) (x : Tidy s) where
         frame = x .frame;
         no-more = tidy-links (λ l. (s LinkState l ≐ linkOpen) and (s LinkSource l ≐ e)) ready (λ l y. y .0);
         open-empty = λ k kind o. after k kind o (decide (k ≐ e));
+        states = x .states;
       }
     where
       after : (k : ℕ) → s Kind k ≡ event → choose (k ≐ e) fired (s EventState k) ≡ eventOpen → Case (k ≐ e)
@@ -151,6 +169,7 @@ module _ (s : Session) (x : Tidy s) where
         frame = x .frame;
         no-more = tidy-links (λ l. (s LinkSource l ≐ e) and (s LinkState l ≐ linkOpen)) cut (λ l y. y .1);
         open-empty = λ k kind o. after k kind o (places e k);
+        states = x .states;
       }
     where
       v : ℕ

@@ -1,5 +1,5 @@
 // Walking upwards from a task that has ended or was destroyed.
-use crate::children::has_live_below;
+use crate::children::is_busy_above;
 use session::Field;
 use session::names;
 ghost use mathlib.Core.Path.{_≡_};
@@ -74,7 +74,7 @@ pub fn stops_above(s: &[u64], h: u64) -> bool
     if c == 0 {
         return true;
     }
-    has_live_below(s, c)
+    is_busy_above(s, c)
 }
 
 // The first step of a climb from task h: none from main, which has no creator. Internal, as `task_waits` is.

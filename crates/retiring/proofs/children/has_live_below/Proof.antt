@@ -1,5 +1,5 @@
 -- `retiring::children::has_live_below` meets its contract: none before d is a live descendant, as none lower than a is one
--- (`none-lower`); one that is decides (`passes`), and past the count there is none (`fails`).
+-- (`none-below`); one that is decides (`passes`), and past the count there is none (`fails`).
 use Prim.Native.Nat.{ℕ, _+_, _-_, _≤_, _<_}
 use mathlib.Core.Path.{_≡_, sym, _∙_}
 use native.Mathlib.Omega.{arith}
@@ -13,7 +13,7 @@ use Rattle.rules.specs.FormulaLaws.{passed, failed, passes, fails}
 use Rattle.rules.specs.Reading.{isLive}
 use Rattle.rules.specs.Descendants.{under}
 use Rattle.retiring.specs.TidyUnderWay.{Tidy}
-use Rattle.retiring.specs.Children.{none-lower}
+use Rattle.retiring.specs.Children.{none-below}
 use Rattle.retiring.proofs.children.has_live_below.Statement.{statement}
 use Rattle.retiring.proofs.children.has_live_below.Tie as tie
 
@@ -33,7 +33,7 @@ loop-holds c =
     let x = c .before .before in
     let p = x .pre in
     let s = read (now (x .args .s)) in
-    (p .0, p .1, p .2, c .get .ensures, omega arith, λ i b y. none-lower s (p .1) i (x .args .a) (p .2) (omega arith) b (y .1))
+    (p .0, p .1, p .2, c .get .ensures, omega arith, λ i b y. none-below s (p .1) i (x .args .a) (p .2) (omega arith) b (y .1))
 
 is-live-below-requires : tie.Need-is-live-below-requires Inv-loop μ-loop
 is-live-below-requires c κs =

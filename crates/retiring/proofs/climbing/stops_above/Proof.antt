@@ -25,8 +25,8 @@ returns c =
       goes-on = λ q. absurd (subst (λ (b : Bool). T b) q tt);
     }
 
-has-live-below-requires : tie.Need-has-live-below-requires
-has-live-below-requires c κs =
+is-busy-above-requires : tie.Need-is-busy-above-requires
+is-busy-above-requires c κs =
     let x = c .before .before .before in
     let p = x .pre in
     let e = c .before .done-creator .ensures in
@@ -42,11 +42,11 @@ returns-2 c =
     let e = one .before .done-creator .ensures in
     let some = one .if1 .left in
     let d = creator-over s (p .1) (x .args .h) (p .2) (λ z. some (e ∙ z)) in
-    let told = c .has-live-below .ensures in
+    let told = c .is-busy-above .ensures in
     record {
       stops = λ q. busy-stops s (p .1) (x .args .h) (p .2) (rw e at (passed _ (sym told ∙ q))) (λ z. some (e ∙ z));
       goes-on = λ q. (omega (arith, some, e, d .0), ((λ live. d .1 (live .1)), rw (e ∙ d .0) at (failed _ (sym told ∙ q))));
     }
 
 pub stops-above-spec : {M : Type 1} → statement M
-stops-above-spec = tie.close (tie.spec done-creator-requires returns has-live-below-requires returns-2)
+stops-above-spec = tie.close (tie.spec done-creator-requires returns is-busy-above-requires returns-2)

@@ -33,7 +33,7 @@ destroy-output-requires c κs =
     let w = f .set .ensures in (
       omega (arith, w .same-length, p .0),
       p .1,
-      rw (← w .reading) at (tidy-state s (p .2) (a .t) taskDestroyed),
+      rw (← w .reading) at (tidy-state s (p .2) (a .t) taskDestroyed (omega arith)),
       rw
           (← w .reading) at (low-state s (a .t) taskDestroyed (p .3)),
     )
@@ -49,7 +49,7 @@ fire-over-requires c κs =
     let w = wrote-next (λ r. outputDestroyed r (a .t)) (f .set .ensures) (g .destroy-output .ensures) in
     let r = put s TaskState (a .t) taskDestroyed in
     let q = outputDestroyed r (a .t) in
-    let tidy = tidy-outputDestroyed r (a .t) (tidy-state s (p .2) (a .t) taskDestroyed) in
+    let tidy = tidy-outputDestroyed r (a .t) (tidy-state s (p .2) (a .t) taskDestroyed (omega arith)) in
     let own = own-destroyed s (a .t) r (own-state s (a .t) taskDestroyed) in (
       omega (arith, w .same-length, p .0),
       rw (← w .reading) at tidy,
