@@ -1,4 +1,4 @@
--- What an operation that makes something leaves and answers.
+-- What an operation that makes something, or climbs, leaves and answers.
 use Prim.Native.Nat.{ℕ, _+_}
 use mathlib.Core.Path.{_≡_}
 use mathlib.Core.List.{List}
@@ -7,7 +7,7 @@ use Rattle.session.specs.declared.Field.the-variants.{Links}
 use Rattle.rules.specs.Formula.{choose}
 use Rattle.rules.specs.Checks.{makesLink}
 
--- memory holds the session s, and the answer r is the handle or link m that was made
+-- memory holds the session s, and the answer r is the handle or link m that was made, or the m steps climbed
 pub record Made (before after : List ℕ) (s : Session) (m r : ℕ) : Type 0 where
   pub wrote : Wrote before after s
   pub answer : r ≡ m
