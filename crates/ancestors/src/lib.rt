@@ -21,7 +21,7 @@ fn mark_above(s: &[u64], marks: &mut [u8], h: u64)
     requires { (words ≤ length s.now) × (read s.now Objects 0 ≤ most_objects) × Falls (read s.now)
         × (h ≤ read s.now Objects 0)
         × (length marks.old ≡ object_places) × ClosedBut (read s.now) marks.old h }
-    ensures { Above (was s) marks.old marks.new h }
+    ensures { Above (was s.now) marks.old marks.new h }
 {
     let c = session::get(s, Field::TaskCreator, h as usize);
     if c == 0 {
@@ -39,7 +39,7 @@ fn mark_above(s: &[u64], marks: &mut [u8], h: u64)
 pub fn mark_all(s: &[u64], marks: &mut [u8])
     requires { (words ≤ length s.now) × (read s.now Objects 0 ≤ most_objects) × Falls (read s.now) × Stated (read s.now)
         × (length marks.old ≡ object_places) × Shows marks.old (λ a. never) }
-    ensures { Shows marks.new (busy (was s)) }
+    ensures { Shows marks.new (busy (was s.now)) }
 {
     let n = session::get(s, Field::Objects, 0);
     let mut h = last_live(s, n);
@@ -53,7 +53,7 @@ pub fn mark_all(s: &[u64], marks: &mut [u8])
 // tasks have a state.
 pub fn busy_marks(s: &[u64]) -> [u8; names::OBJECT_PLACES]
     requires { (words ≤ length s.now) × (read s.now Objects 0 ≤ most_objects) × Falls (read s.now) × Stated (read s.now) }
-    ensures { Shows result (busy (was s)) }
+    ensures { Shows result (busy (was s.now)) }
 {
     let mut marks: [u8; names::OBJECT_PLACES] = [0; names::OBJECT_PLACES];
     mark_all(s, &mut marks);

@@ -12,7 +12,7 @@ use session::{Field, names};
 // Whether the state at h is a live task's. Internal: callers have shown the length and the handle.
 fn is_live_state(s: &[u64], h: usize) -> bool
     requires { (words ≤ length s.now) × (h < object_places) }
-    ensures { result ≡ test (live_state (was s) h) }
+    ensures { result ≡ test (live_state (was s.now) h) }
 {
     let state = session::get(s, Field::TaskState, h);
     if state == 0 {
@@ -25,7 +25,7 @@ fn is_live_state(s: &[u64], h: usize) -> bool
 // tests in a row of it. Internal, as `is_live_state` is.
 fn has_live_state(s: &[u64], h: usize) -> bool
     requires { (words ≤ length s.now) × (h + 8 ≤ object_places) }
-    ensures { result ≡ test (some 8 (λ n. live_state (was s) (h + n))) }
+    ensures { result ≡ test (some 8 (λ n. live_state (was s.now) (h + n))) }
 {
     let mut n: usize = 0;
     while n < 8 {
@@ -42,7 +42,7 @@ fn has_live_state(s: &[u64], h: usize) -> bool
 pub fn last_live(s: &[u64], high: u64) -> u64
     requires { (words ≤ length s.now) × (read s.now Objects 0 ≤ most_objects) × Stated (read s.now)
         × (high ≤ read s.now Objects 0) }
-    ensures { LastLive (was s) high result }
+    ensures { LastLive (was s.now) high result }
 {
     let mut h = high;
     while 8 <= h {

@@ -19,7 +19,7 @@ use session::{Field, names};
 // The slot at place i of the fields of slots.
 fn slot_at(s: &[u64], i: usize) -> Slot
     requires { (words ≤ length s.now) × (i < slot_places) }
-    ensures { result ≡ slot_at (was s) i }
+    ensures { result ≡ slot_at (was s.now) i }
 {
     Slot {
         mode: session::get(s, Field::SlotMode, i),
@@ -30,7 +30,7 @@ fn slot_at(s: &[u64], i: usize) -> Slot
 
 fn slot_of(s: &[u64], t: usize, j: usize) -> Slot
     requires { (words ≤ length s.now) × (t ≤ most_objects) × (j < 16) }
-    ensures { result ≡ slot_at (was s) (at t j) }
+    ensures { result ≡ slot_at (was s.now) (at t j) }
 {
     slot_at(s, t * 16 + j)
 }
@@ -38,7 +38,7 @@ fn slot_of(s: &[u64], t: usize, j: usize) -> Slot
 // A task with its sixteen slots.
 fn task_at(s: &[u64], t: usize) -> Task
     requires { (words ≤ length s.now) × (t ≤ most_objects) }
-    ensures { result ≡ task_at (was s) t }
+    ensures { result ≡ task_at (was s.now) t }
 {
     let mut slots = [Slot {
         mode: 0,
@@ -72,7 +72,7 @@ fn is_claim(slot: Slot) -> bool
 
 fn has_claim(s: &[u64], t: u64) -> bool
     requires { (words ≤ length s.now) × (t ≤ most_objects) × (read s.now TaskSlots t ≤ 16) }
-    ensures { result ≡ test (has_claim (was s) t) }
+    ensures { result ≡ test (has_claim (was s.now) t) }
 {
     let count = of_object(s, Field::TaskSlots, t);
     let mut j: u64 = 0;
@@ -98,7 +98,7 @@ fn clashes(slot: Slot, hold: Slot) -> bool
 // Whether another task holds the slot's block since it made it, and so stops what the slot asks for.
 fn maker_clashes(s: &[u64], t: u64, slot: Slot) -> bool
     requires { words ≤ length s.now }
-    ensures { result ≡ test (maker_clash (was s) t slot) }
+    ensures { result ≡ test (maker_clash (was s.now) t slot) }
 {
     if slot.payload == 0 {
         return false;
@@ -116,7 +116,7 @@ fn maker_clashes(s: &[u64], t: u64, slot: Slot) -> bool
 // creation of the slot's block.
 fn hold_clashes(s: &[u64], t: u64, slot: Slot, k: usize) -> bool
     requires { (words ≤ length s.now) × (k < slot_places) }
-    ensures { result ≡ test (hold_clash (was s) t slot k) }
+    ensures { result ≡ test (hold_clash (was s.now) t slot k) }
 {
     if k == 0 {
         return maker_clashes(s, t, slot);
@@ -130,7 +130,7 @@ fn hold_clashes(s: &[u64], t: u64, slot: Slot, k: usize) -> bool
 // Whether the block of each pre-slot remains: none is doomed or destroyed.
 pub fn blocks_remain(s: &[u64], t: u64) -> bool
     requires { words ≤ length s.now }
-    ensures { result ≡ test (blocks_remain (was s) t) }
+    ensures { result ≡ test (blocks_remain (was s.now) t) }
 {
     let count = of_object(s, Field::TaskSlots, t);
     let mut j: u64 = 0;
@@ -148,7 +148,7 @@ pub fn blocks_remain(s: &[u64], t: u64) -> bool
 // another task's.
 pub fn is_free(s: &[u64], t: u64) -> bool
     requires { (words ≤ length s.now) × Holds (sound (read s.now)) × (t ≤ read s.now Objects 0) × (read s.now TaskState t ≡ resolved) }
-    ensures { result ≡ test (slots_free (was s) t) }
+    ensures { result ≡ test (slots_free (was s.now) t) }
 {
     if !has_claim(s, t) {
         return true;

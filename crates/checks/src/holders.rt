@@ -24,7 +24,7 @@ pub fn find_more(
 ) -> usize
     requires { (words ≤ length s.now) × (read s.now Objects 0 ≤ most_objects) × Listed (read s.now) holders.old found
         × (q ≤ 16 * found) }
-    ensures { More (was s) holders.old holders.new found result q }
+    ensures { More (was s.now) holders.old holders.new found result q }
 {
     if q < 16 * found {
         return found;
@@ -51,7 +51,7 @@ pub fn place_at(holders: &[u16; names::OBJECT_PLACES], q: usize) -> usize
 // The number after q of the place at which the next hold may be: the holder's next slot, or the first one of the next holder.
 pub fn next_place(s: &[u64], holders: &[u16; names::OBJECT_PLACES], found: usize, q: usize) -> usize
     requires { (words ≤ length s.now) × Holds (sound (read s.now)) × Listed (read s.now) holders.now found × (q < 16 * found) }
-    ensures { (result ≤ 16 * found) × Passed (λ i. is_hold (was s) (place_of holders.now i)) (q + 1) result }
+    ensures { (result ≤ 16 * found) × Passed (λ i. is_hold (was s.now) (place_of holders.now i)) (q + 1) result }
 {
     let i = q / 16;
     let j = q % 16 + 1;

@@ -29,7 +29,7 @@ use session::{Field, names};
 
 pub fn template_refusal(s: &[u64], caller: u64, n: u64) -> u64
     requires { words ≤ length s.now }
-    ensures { result ≡ refusal (template_checks (was s) caller n) }
+    ensures { result ≡ refusal (template_checks (was s.now) caller n) }
 {
     if names::UNKNOWN_COUNT < n {
         return refusals::OUT_OF_RANGE;
@@ -45,7 +45,7 @@ pub fn template_refusal(s: &[u64], caller: u64, n: u64) -> u64
 
 pub fn task_refusal(s: &[u64], caller: u64, template: u64, n: u64, finish: u64, output: u64) -> u64
     requires { words ≤ length s.now }
-    ensures { result ≡ refusal (task_checks (was s) caller template n finish output) }
+    ensures { result ≡ refusal (task_checks (was s.now) caller template n finish output) }
 {
     if names::UNKNOWN_COUNT < n {
         return refusals::OUT_OF_RANGE;
@@ -79,7 +79,7 @@ pub fn task_refusal(s: &[u64], caller: u64, template: u64, n: u64, finish: u64, 
 
 pub fn event_refusal(s: &[u64], caller: u64, ty: u64) -> u64
     requires { words ≤ length s.now }
-    ensures { result ≡ refusal (event_checks (was s) caller ty) }
+    ensures { result ≡ refusal (event_checks (was s.now) caller ty) }
 {
     if !is_offered_type(ty) {
         return refusals::OUT_OF_RANGE;
@@ -95,7 +95,7 @@ pub fn event_refusal(s: &[u64], caller: u64, ty: u64) -> u64
 
 pub fn counted_refusal(s: &[u64], caller: u64, n: u64) -> u64
     requires { words ≤ length s.now }
-    ensures { result ≡ refusal (counted_checks (was s) caller n) }
+    ensures { result ≡ refusal (counted_checks (was s.now) caller n) }
 {
     if !is_link_count(n) {
         return refusals::OUT_OF_RANGE;
@@ -111,7 +111,7 @@ pub fn counted_refusal(s: &[u64], caller: u64, n: u64) -> u64
 
 pub fn block_refusal(s: &[u64], caller: u64, hold: u64) -> u64
     requires { words ≤ length s.now }
-    ensures { result ≡ refusal (block_checks (was s) caller hold) }
+    ensures { result ≡ refusal (block_checks (was s.now) caller hold) }
 {
     if 1 < hold {
         return refusals::OUT_OF_RANGE;
@@ -128,7 +128,7 @@ pub fn block_refusal(s: &[u64], caller: u64, hold: u64) -> u64
 // The checks of a dependence from 14 on: those of a link, or those of a slot that is satisfied now. The memory is a sound session.
 fn satisfy_or_link_refusal(s: &[u64], source: u64, d: u64, j: u64) -> u64
     requires { (words ≤ length s.now) × Holds (sound (read s.now)) }
-    ensures { result ≡ refusal (satisfy_or_link_checks (was s) source d j) }
+    ensures { result ≡ refusal (satisfy_or_link_checks (was s.now) source d j) }
 {
     if is_kind(s, names::EVENT, source) {
         if has_its_count(s, source) {
@@ -151,7 +151,7 @@ fn satisfy_or_link_refusal(s: &[u64], source: u64, d: u64, j: u64) -> u64
 // Internal, and the memory is a sound session.
 pub fn dependence_refusal(s: &[u64], caller: u64, source: u64, d: u64, j: u64, mode: u64) -> u64
     requires { (words ≤ length s.now) × Holds (sound (read s.now)) }
-    ensures { result ≡ refusal (dependence_checks (was s) caller source d j mode) }
+    ensures { result ≡ refusal (dependence_checks (was s.now) caller source d j mode) }
 {
     if mode < names::RO {
         return refusals::OUT_OF_RANGE;
@@ -192,7 +192,7 @@ pub fn dependence_refusal(s: &[u64], caller: u64, source: u64, d: u64, j: u64, m
 // Internal, and the memory is a sound session.
 pub fn satisfy_refusal(s: &[u64], caller: u64, e: u64, b: u64, j: u64) -> u64
     requires { (words ≤ length s.now) × Holds (sound (read s.now)) }
-    ensures { result ≡ refusal (satisfy_checks (was s) caller e b j) }
+    ensures { result ≡ refusal (satisfy_checks (was s.now) caller e b j) }
 {
     if !is_running(s, caller) {
         return refusals::CALLER_NOT_RUNNING;
@@ -229,7 +229,7 @@ pub fn satisfy_refusal(s: &[u64], caller: u64, e: u64, b: u64, j: u64) -> u64
 
 pub fn release_refusal(s: &[u64], caller: u64, b: u64) -> u64
     requires { words ≤ length s.now }
-    ensures { result ≡ refusal (release_checks (was s) caller b) }
+    ensures { result ≡ refusal (release_checks (was s.now) caller b) }
 {
     if !is_running(s, caller) {
         return refusals::CALLER_NOT_RUNNING;
@@ -252,7 +252,7 @@ pub fn release_refusal(s: &[u64], caller: u64, b: u64) -> u64
 // Internal, and the memory is a sound session.
 pub fn destroy_refusal(s: &[u64], caller: u64, h: u64) -> u64
     requires { (words ≤ length s.now) × Holds (sound (read s.now)) }
-    ensures { result ≡ refusal (destroy_checks (was s) caller h) }
+    ensures { result ≡ refusal (destroy_checks (was s.now) caller h) }
 {
     if !is_running(s, caller) {
         return refusals::CALLER_NOT_RUNNING;
@@ -274,7 +274,7 @@ pub fn destroy_refusal(s: &[u64], caller: u64, h: u64) -> u64
 
 pub fn deliver_refusal(s: &[u64], l: u64) -> u64
     requires { words ≤ length s.now }
-    ensures { result ≡ refusal (deliver_checks (was s) l) }
+    ensures { result ≡ refusal (deliver_checks (was s.now) l) }
 {
     if l == 0 {
         return refusals::NEVER_MADE;
@@ -291,7 +291,7 @@ pub fn deliver_refusal(s: &[u64], l: u64) -> u64
 // Internal, and the memory is a sound session.
 pub fn grant_refusal(s: &[u64], t: u64) -> u64
     requires { (words ≤ length s.now) × Holds (sound (read s.now)) }
-    ensures { result ≡ refusal (grant_checks (was s) t) }
+    ensures { result ≡ refusal (grant_checks (was s.now) t) }
 {
     if !is_made(s, t) {
         return refusals::NEVER_MADE;
@@ -316,7 +316,7 @@ pub fn grant_refusal(s: &[u64], t: u64) -> u64
 
 pub fn start_refusal(s: &[u64], t: u64) -> u64
     requires { words ≤ length s.now }
-    ensures { result ≡ refusal (start_checks (was s) t) }
+    ensures { result ≡ refusal (start_checks (was s.now) t) }
 {
     if !is_made(s, t) {
         return refusals::NEVER_MADE;
@@ -335,7 +335,7 @@ pub fn start_refusal(s: &[u64], t: u64) -> u64
 
 pub fn end_refusal(s: &[u64], t: u64, b: u64) -> u64
     requires { words ≤ length s.now }
-    ensures { result ≡ refusal (end_checks (was s) t b) }
+    ensures { result ≡ refusal (end_checks (was s.now) t b) }
 {
     if !is_made(s, t) {
         return refusals::NEVER_MADE;

@@ -15,7 +15,7 @@ use session::{Field, names};
 
 pub fn is_made_or_null(s: &[u64], h: u64) -> bool
     requires { words ≤ length s.now }
-    ensures { result ≡ test (or_null (was s) (made (was s)) h) }
+    ensures { result ≡ test (or_null (was s.now) (made (was s.now)) h) }
 {
     if h == 0 {
         return true;
@@ -25,7 +25,7 @@ pub fn is_made_or_null(s: &[u64], h: u64) -> bool
 
 pub fn is_block_or_null(s: &[u64], h: u64) -> bool
     requires { words ≤ length s.now }
-    ensures { result ≡ test (or_null (was s) (is_kind (was s) block) h) }
+    ensures { result ≡ test (or_null (was s.now) (is_kind (was s.now) block) h) }
 {
     if h == 0 {
         return true;
@@ -35,7 +35,7 @@ pub fn is_block_or_null(s: &[u64], h: u64) -> bool
 
 pub fn remains_or_null(s: &[u64], h: u64) -> bool
     requires { words ≤ length s.now }
-    ensures { result ≡ test (or_null (was s) (remains (was s)) h) }
+    ensures { result ≡ test (or_null (was s.now) (remains (was s.now)) h) }
 {
     if h == 0 {
         return true;
@@ -46,7 +46,7 @@ pub fn remains_or_null(s: &[u64], h: u64) -> bool
 // What a dependence may come from: null, a block or an event.
 pub fn is_source(s: &[u64], h: u64) -> bool
     requires { words ≤ length s.now }
-    ensures { result ≡ test (or_null (was s) (λ k. is_kind (was s) block k or is_kind (was s) event k) h) }
+    ensures { result ≡ test (or_null (was s.now) (λ k. is_kind (was s.now) block k or is_kind (was s.now) event k) h) }
 {
     if h == 0 {
         return true;
@@ -60,7 +60,7 @@ pub fn is_source(s: &[u64], h: u64) -> bool
 // Whether an object is an event of a type that a call may name. In a sound session that is any event but an output.
 pub fn is_user_event(s: &[u64], h: u64) -> bool
     requires { (words ≤ length s.now) × Holds (sound (read s.now)) }
-    ensures { result ≡ test (is_user_event (was s) h) }
+    ensures { result ≡ test (is_user_event (was s.now) h) }
 {
     (of_object(s, Field::Kind, h) == names::EVENT)
         & (of_object(s, Field::EventType, h) != names::OUTPUT)
@@ -69,7 +69,7 @@ pub fn is_user_event(s: &[u64], h: u64) -> bool
 // Whether such an event has a slot of that number: 0, and 1 if it is a latch.
 pub fn has_event_slot(s: &[u64], e: u64, j: u64) -> bool
     requires { (words ≤ length s.now) × Holds (is_user_event (read s.now) e) }
-    ensures { result ≡ test (has_slot (was s) e j) }
+    ensures { result ≡ test (has_slot (was s.now) e j) }
 {
     (j == 0) | ((j == 1) & (of_object(s, Field::EventType, e) == names::LATCH))
 }
@@ -77,7 +77,7 @@ pub fn has_event_slot(s: &[u64], e: u64, j: u64) -> bool
 // Whether a task or such an event has a slot of that number.
 pub fn has_slot(s: &[u64], h: u64, j: u64) -> bool
     requires { (words ≤ length s.now) × Holds (is_kind (read s.now) task h or is_user_event (read s.now) h) }
-    ensures { result ≡ test (has_slot (was s) h j) }
+    ensures { result ≡ test (has_slot (was s.now) h j) }
 {
     if is_kind(s, names::TASK, h) {
         return j < of_object(s, Field::TaskSlots, h);
@@ -88,7 +88,7 @@ pub fn has_slot(s: &[u64], h: u64, j: u64) -> bool
 // What a dependence may lead to: a task, or an event of a type that users make.
 pub fn is_destination(s: &[u64], h: u64) -> bool
     requires { (words ≤ length s.now) × Holds (sound (read s.now)) }
-    ensures { result ≡ test (is_kind (was s) task h or is_user_event (was s) h) }
+    ensures { result ≡ test (is_kind (was s.now) task h or is_user_event (was s.now) h) }
 {
     if is_kind(s, names::TASK, h) {
         return true;
@@ -99,7 +99,7 @@ pub fn is_destination(s: &[u64], h: u64) -> bool
 // Whether slot j of h, where h is a task, is unclaimed.
 pub fn is_unclaimed(s: &[u64], h: u64, j: u64) -> bool
     requires { words ≤ length s.now }
-    ensures { result ≡ test (is_kind (was s) task h then was s SlotMode (at h j) ≐ 0) }
+    ensures { result ≡ test (is_kind (was s.now) task h then was s.now SlotMode (at h j) ≐ 0) }
 {
     if !is_kind(s, names::TASK, h) {
         return true;
@@ -110,7 +110,7 @@ pub fn is_unclaimed(s: &[u64], h: u64, j: u64) -> bool
 // What may be destroyed: anything but an output event.
 pub fn is_destroyable(s: &[u64], h: u64) -> bool
     requires { (words ≤ length s.now) × Holds (sound (read s.now)) }
-    ensures { result ≡ test (is_kind (was s) event h then is_user_event (was s) h) }
+    ensures { result ≡ test (is_kind (was s.now) event h then is_user_event (was s.now) h) }
 {
     if !is_kind(s, names::EVENT, h) {
         return true;
@@ -121,7 +121,7 @@ pub fn is_destroyable(s: &[u64], h: u64) -> bool
 // Whether h, where it is a task, is waiting or resolved.
 pub fn is_idle(s: &[u64], h: u64) -> bool
     requires { words ≤ length s.now }
-    ensures { result ≡ test (is_kind (was s) task h then was s TaskState h ≼ resolved) }
+    ensures { result ≡ test (is_kind (was s.now) task h then was s.now TaskState h ≼ resolved) }
 {
     if !is_kind(s, names::TASK, h) {
         return true;
@@ -132,7 +132,7 @@ pub fn is_idle(s: &[u64], h: u64) -> bool
 // Whether a template admits a count of pre-slots.
 pub fn is_count(s: &[u64], template: u64, n: u64) -> bool
     requires { words ≤ length s.now }
-    ensures { result ≡ test (is_count (was s) template n) }
+    ensures { result ≡ test (is_count (was s.now) template n) }
 {
     let count = task_slots(s, template, n);
     if 16 < count {
@@ -148,7 +148,7 @@ pub fn is_count(s: &[u64], template: u64, n: u64) -> bool
 // Whether n more objects can be made.
 pub fn has_room(s: &[u64], n: u64) -> bool
     requires { (words ≤ length s.now) × (n ≤ most_objects) }
-    ensures { result ≡ test (was s Objects 0 + n ≼ most_objects) }
+    ensures { result ≡ test (was s.now Objects 0 + n ≼ most_objects) }
 {
     session::get(s, Field::Objects, 0) <= names::MOST_OBJECTS - n
 }

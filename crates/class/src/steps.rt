@@ -274,7 +274,7 @@ fn close(report: Report, tally: Tally) -> Report
 fn print_pending(report: Report, room: &[u8], memory: &mut [u64], lines: &mut [u8]) -> Step
     requires { Lent memory.old lines.old }
     ensures { Moved memory.old memory.new lines.old lines.new result
-        (closed room.now report (was memory) report.pending) }
+        (closed room.now report (was memory.old) report.pending) }
 {
     let pending = report.pending;
     match pending {
@@ -361,7 +361,7 @@ fn take_after(
     requires lent { Lent memory.old lines.old }
     requires place_in_bounds { place ≤ length room.now }
     ensures { Moved memory.old memory.new lines.old lines.new result
-        (after room.now report (was memory) place sheet) }
+        (after room.now report (was memory.old) place sheet) }
 {
     if report.learner < sheet.learner {
         return silent(stopped(report, LOWER_LEARNER));
@@ -390,7 +390,7 @@ fn take_whole(
     requires lent { Lent memory.old lines.old }
     requires place_in_bounds { place ≤ length room.now }
     ensures { Moved memory.old memory.new lines.old lines.new result
-        (taken room.now report (was memory) place report.pending) }
+        (taken room.now report (was memory.old) place report.pending) }
 {
     let pending = report.pending;
     match pending {
@@ -414,7 +414,7 @@ fn take_sheet(
     requires lent { Lent memory.old lines.old }
     requires place_le_end { (place ≤ end) × (end ≤ length room.now) }
     ensures { Moved memory.old memory.new lines.old lines.new result
-        (sheet_taken room.now report (was memory) place (take (end - place) (drop place room.now))) }
+        (sheet_taken room.now report (was memory.old) place (take (end - place) (drop place room.now))) }
 {
     if MOST < report.length {
         return silent(stopped(report, TOO_LONG));

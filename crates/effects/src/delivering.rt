@@ -14,7 +14,7 @@ use session::Field;
 // A counted event goes with the delivery of the last of its links, l. Internal, as `deliver` is.
 fn expire(s: &mut [u64], l: u64)
     requires { (words ≤ length s.old) × Holds (sound (read s.old)) × met (deliver_checks (read s.old) l) }
-    ensures { Becomes s (rules.expire (was s) l) }
+    ensures { Becomes s.old s.new (rules.expire (was s.old) l) }
 {
     if reading::serves_last(s, l) {
         let source = session::get(s, Field::LinkSource, l as usize);
@@ -30,7 +30,7 @@ fn expire(s: &mut [u64], l: u64)
 // Marks link l as delivered and satisfies its destination, or drops the delivery. Internal, as `deliver` is.
 fn bring(s: &mut [u64], l: u64)
     requires { (words ≤ length s.old) × Holds (sound (read s.old)) × met (deliver_checks (read s.old) l) }
-    ensures { Becomes s (rules.bring (was s) l) }
+    ensures { Becomes s.old s.new (rules.bring (was s.old) l) }
 {
     let at = l as usize;
     let d = session::get(s, Field::LinkTarget, at);
@@ -50,7 +50,7 @@ fn bring(s: &mut [u64], l: u64)
 // 9 deliver (link). Internal: callers have shown the length, a sound session and the checks.
 pub fn deliver(s: &mut [u64], l: u64)
     requires { (words ≤ length s.old) × Holds (sound (read s.old)) × met (deliver_checks (read s.old) l) }
-    ensures { Becomes s (rules.deliver (was s) l) }
+    ensures { Becomes s.old s.new (rules.deliver (was s.old) l) }
 {
     expire(s, l);
     bring(s, l);

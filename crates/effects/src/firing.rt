@@ -17,7 +17,7 @@ const LAST_EIGHT: usize = session::names::LINK_PLACES - 8;
 // Internal: callers have shown the length and the links.
 fn has_link(s: &[u64], e: u64, l: usize) -> bool
     requires { (words ≤ length s.now) × (l + 8 ≤ link_places) }
-    ensures { result ≡ test (link_near (was s) e l) }
+    ensures { result ≡ test (link_near (was s.now) e l) }
 {
     let mut k: usize = 0;
     while k < 8 {
@@ -33,7 +33,7 @@ fn has_link(s: &[u64], e: u64, l: usize) -> bool
 // the link.
 fn past_others(s: &[u64], e: u64, l: usize) -> usize
     requires { (words ≤ length s.now) × (l < link_places) }
-    ensures { Passed (was s) e l result }
+    ensures { Passed (was s.now) e l result }
 {
     if LAST_EIGHT < l {
         return l;
@@ -47,7 +47,7 @@ fn past_others(s: &[u64], e: u64, l: usize) -> usize
 // Gives link l the state v if it is open and from event e. Internal, as `past_others` is.
 fn set_open_link(s: &mut [u64], e: u64, v: u64, l: usize)
     requires { (words ≤ length s.old) × (l < link_places) }
-    ensures { Becomes s (put (was s) LinkState l (link_set (was s) e v l)) }
+    ensures { Becomes s.old s.new (put (was s.old) LinkState l (link_set (was s.old) e v l)) }
 {
     if session::get(s, Field::LinkSource, l) == e {
         if session::get(s, Field::LinkState, l) == session::names::LINK_OPEN {
@@ -60,7 +60,7 @@ fn set_open_link(s: &mut [u64], e: u64, v: u64, l: usize)
 // made. Internal: callers have shown the length, the count of links, and that no link stands past the count.
 pub fn set_open_links(s: &mut [u64], e: u64, v: u64)
     requires { (words ≤ length s.old) × (read s.old Links 0 ≤ most_links) × NoMoreLinks (read s.old) }
-    ensures { Becomes s (open_links_set (was s) e v) }
+    ensures { Becomes s.old s.new (open_links_set (was s.old) e v) }
 {
     let n = session::get(s, Field::Links, 0) as usize;
     let mut l: usize = 0;
@@ -80,7 +80,7 @@ pub fn set_open_links(s: &mut [u64], e: u64, v: u64)
 pub fn fire_one(s: &mut [u64], e: u64, p: u64)
     requires { (words ≤ length s.old) × (e ≤ most_objects) × (read s.old Links 0 ≤ most_links)
         × NoMoreLinks (read s.old) }
-    ensures { Becomes s (fire_one (was s) e p) }
+    ensures { Becomes s.old s.new (fire_one (was s.old) e p) }
 {
     let at = e as usize;
     session::set(s, Field::EventState, at, session::names::FIRED);

@@ -19,7 +19,7 @@ use session::Field;
 // the slot.
 fn claim(s: &mut [u64], d: u64, j: u64, mode: u64)
     requires { (words ≤ length s.old) × (d ≤ most_objects) × (read s.old Kind d ≡ task → j < 16) }
-    ensures { Becomes s (rules.claim (was s) d j mode) }
+    ensures { Becomes s.old s.new (rules.claim (was s.old) d j mode) }
 {
     let at = d as usize;
     if session::get(s, Field::Kind, at) == session::names::TASK {
@@ -40,7 +40,7 @@ fn first_link(state: u64) -> u64
 // Makes a link from event source to slot j of d. Internal: callers have shown the length, the handle and the room.
 fn new_link(s: &mut [u64], source: u64, d: u64, j: u64) -> u64
     requires { (words ≤ length s.old) × (source ≤ most_objects) × (read s.old Links 0 < most_links) }
-    ensures { Made s.old s.new (rules.new_link (was s) source d j) (was s Links 0 + 1) result }
+    ensures { Made s.old s.new (rules.new_link (was s.old) source d j) (was s.old Links 0 + 1) result }
 {
     let state = first_link(session::get(s, Field::EventState, source as usize));
     let l = session::get(s, Field::Links, 0) + 1;
@@ -57,7 +57,7 @@ fn new_link(s: &mut [u64], source: u64, d: u64, j: u64) -> u64
 // shown the length, a sound session and the checks.
 pub fn dependence(s: &mut [u64], caller: u64, source: u64, d: u64, j: u64, mode: u64) -> u64
     requires { (words ≤ length s.old) × Holds (sound (read s.old)) × met (dependence_checks (read s.old) caller source d j mode) }
-    ensures { Made s.old s.new (rules.depend (was s) source d j mode) (link_made (was s) source) result }
+    ensures { Made s.old s.new (rules.depend (was s.old) source d j mode) (link_made (was s.old) source) result }
 {
     let kind = session::get(s, Field::Kind, source as usize);
     claim(s, d, j, mode);

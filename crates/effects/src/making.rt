@@ -18,7 +18,7 @@ use session::Field;
 // The handle that the next object gets. Internal: callers have shown the length and the room.
 fn next_object(s: &[u64]) -> u64
     requires { (words ≤ length s.now) × (read s.now Objects 0 + 1 ≤ most_objects) }
-    ensures { result ≡ was s Objects 0 + 1 }
+    ensures { result ≡ was s.now Objects 0 + 1 }
 {
     session::get(s, Field::Objects, 0) + 1
 }
@@ -26,7 +26,7 @@ fn next_object(s: &[u64]) -> u64
 // Object h is the last, and of this kind. Internal: callers have shown the length and the handle.
 fn new_object(s: &mut [u64], h: u64, kind: u64)
     requires { (words ≤ length s.old) × (h ≤ most_objects) }
-    ensures { Becomes s (new (was s) h kind) }
+    ensures { Becomes s.old s.new (new (was s.old) h kind) }
 {
     session::set(s, Field::Objects, 0, h);
     session::set(s, Field::Kind, h as usize, kind);
@@ -35,7 +35,7 @@ fn new_object(s: &mut [u64], h: u64, kind: u64)
 // 1 template (caller, count of pre-slots or 17). Internal: callers have shown the length, a sound session and the checks.
 pub fn template(s: &mut [u64], caller: u64, n: u64) -> u64
     requires { (words ≤ length s.old) × Holds (sound (read s.old)) × met (template_checks (read s.old) caller n) }
-    ensures { Made s.old s.new (new_template (was s) n) (was s Objects 0 + 1) result }
+    ensures { Made s.old s.new (new_template (was s.old) n) (was s.old Objects 0 + 1) result }
 {
     let h = next_object(s);
     new_object(s, h, session::names::TEMPLATE);
@@ -59,7 +59,7 @@ fn first_tally(ty: u64) -> u64
 // handle.
 fn new_event(s: &mut [u64], h: u64, ty: u64, count: u64)
     requires { (words ≤ length s.old) × (h ≤ most_objects) }
-    ensures { Becomes s (new_event (was s) h ty count) }
+    ensures { Becomes s.old s.new (new_event (was s.old) h ty count) }
 {
     new_object(s, h, session::names::EVENT);
     let at = h as usize;
@@ -82,7 +82,7 @@ fn first_state(n: u64) -> u64
 // A new task with handle h and n pre-slots. Internal: callers have shown the length and the handle.
 fn new_task(s: &mut [u64], caller: u64, h: u64, n: u64, finish: u64, out: u64)
     requires { (words ≤ length s.old) × (h ≤ most_objects) }
-    ensures { Becomes s (new_task (was s) caller h n finish out) }
+    ensures { Becomes s.old s.new (new_task (was s.old) caller h n finish out) }
 {
     new_object(s, h, session::names::TASK);
     let at = h as usize;
@@ -97,8 +97,8 @@ fn new_task(s: &mut [u64], caller: u64, h: u64, n: u64, finish: u64, out: u64)
 pub fn task(s: &mut [u64], caller: u64, tm: u64, n: u64, finish: u64, out: u64) -> u64
     requires { (words ≤ length s.old) × Holds (sound (read s.old)) × met (task_checks (read s.old) caller tm n finish out) }
     ensures { Made s.old s.new
-        (make_task (was s) caller (task_slots (was s) tm n) finish out)
-        (was s Objects 0 + 1) result }
+        (make_task (was s.old) caller (task_slots (was s.old) tm n) finish out)
+        (was s.old Objects 0 + 1) result }
 {
     let slots = reading::task_slots(s, tm, n);
     let h = next_object(s);
@@ -113,7 +113,7 @@ pub fn task(s: &mut [u64], caller: u64, tm: u64, n: u64, finish: u64, out: u64) 
 // 3 event (caller, type). Internal, as `template` is.
 pub fn event(s: &mut [u64], caller: u64, ty: u64) -> u64
     requires { (words ≤ length s.old) × Holds (sound (read s.old)) × met (event_checks (read s.old) caller ty) }
-    ensures { Made s.old s.new (new_event (was s) (was s Objects 0 + 1) ty 0) (was s Objects 0 + 1) result }
+    ensures { Made s.old s.new (new_event (was s.old) (was s.old Objects 0 + 1) ty 0) (was s.old Objects 0 + 1) result }
 {
     let h = next_object(s);
     new_event(s, h, ty, 0);
@@ -123,7 +123,7 @@ pub fn event(s: &mut [u64], caller: u64, ty: u64) -> u64
 // 13 counted (caller, count): an event that goes once so many links from it are delivered. Internal, as `template` is.
 pub fn counted(s: &mut [u64], caller: u64, n: u64) -> u64
     requires { (words ≤ length s.old) × Holds (sound (read s.old)) × met (counted_checks (read s.old) caller n) }
-    ensures { Made s.old s.new (new_event (was s) (was s Objects 0 + 1) counted n) (was s Objects 0 + 1) result }
+    ensures { Made s.old s.new (new_event (was s.old) (was s.old Objects 0 + 1) counted n) (was s.old Objects 0 + 1) result }
 {
     let h = next_object(s);
     new_event(s, h, session::names::COUNTED, n);
@@ -133,7 +133,7 @@ pub fn counted(s: &mut [u64], caller: u64, n: u64) -> u64
 // 4 block (caller, hold): with hold 1 its creator holds it. Internal, as `template` is.
 pub fn block(s: &mut [u64], caller: u64, hold: u64) -> u64
     requires { (words ≤ length s.old) × Holds (sound (read s.old)) × met (block_checks (read s.old) caller hold) }
-    ensures { Made s.old s.new (new_block (was s) caller hold) (was s Objects 0 + 1) result }
+    ensures { Made s.old s.new (new_block (was s.old) caller hold) (was s.old Objects 0 + 1) result }
 {
     let h = next_object(s);
     new_object(s, h, session::names::BLOCK);

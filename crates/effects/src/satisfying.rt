@@ -19,7 +19,7 @@ use session::Field;
 // empty. Internal, as `is_full` is.
 fn is_filled(s: &[u64], t: u64) -> bool
     requires { (words ≤ length s.now) × (t ≤ most_objects) × (read s.now TaskSlots t ≤ 16) }
-    ensures { result ≡ test (full (was s) t) }
+    ensures { result ≡ test (full (was s.now) t) }
 {
     let n = session::get(s, Field::TaskSlots, t as usize) as usize;
     if 0 < n {
@@ -33,7 +33,7 @@ fn is_filled(s: &[u64], t: u64) -> bool
 // Satisfies slot j of task t with p. Internal: callers have shown the length, the handle and the slot.
 fn satisfy_slot(s: &mut [u64], t: u64, j: u64, p: u64)
     requires { (words ≤ length s.old) × (t ≤ most_objects) × Fillable (read s.old) t j }
-    ensures { Becomes s (rules.satisfy_slot (was s) t j p) }
+    ensures { Becomes s.old s.new (rules.satisfy_slot (was s.old) t j p) }
 {
     let at = t as usize * 16 + j as usize;
     session::set(s, Field::SlotMark, at, session::names::SATISFIED);
@@ -58,7 +58,7 @@ fn next_tally(n: u64, j: u64) -> u64
 // and the latch's range.
 fn tally(s: &mut [u64], e: u64, j: u64)
     requires { (words ≤ length s.old) × Firable (read s.old) e × Countable (read s.old) e j }
-    ensures { Becomes s (rules.tally (was s) e j) }
+    ensures { Becomes s.old s.new (rules.tally (was s.old) e j) }
 {
     let at = e as usize;
     let n = next_tally(session::get(s, Field::EventTally, at), j);
@@ -71,7 +71,7 @@ fn tally(s: &mut [u64], e: u64, j: u64)
 // Satisfies slot j of event e with p. Internal: callers have shown the length, the handle, the links and, of a latch, its range.
 fn satisfy_event(s: &mut [u64], e: u64, j: u64, p: u64)
     requires { (words ≤ length s.old) × Triggerable (read s.old) e j }
-    ensures { Becomes s (rules.satisfy_event (was s) e j p) }
+    ensures { Becomes s.old s.new (rules.satisfy_event (was s.old) e j p) }
 {
     let at = e as usize;
     if session::get(s, Field::EventType, at) == session::names::LATCH {
@@ -87,7 +87,7 @@ fn satisfy_event(s: &mut [u64], e: u64, j: u64, p: u64)
 // Satisfies slot j of task or event d with p. Internal: callers have shown the length and what `Satisfiable` says.
 pub fn satisfy_either(s: &mut [u64], d: u64, j: u64, p: u64)
     requires { (words ≤ length s.old) × Satisfiable (read s.old) d j }
-    ensures { Becomes s (rules.satisfy (was s) d j p) }
+    ensures { Becomes s.old s.new (rules.satisfy (was s.old) d j p) }
 {
     if session::get(s, Field::Kind, d as usize) == session::names::TASK {
         satisfy_slot(s, d, j, p);
@@ -99,7 +99,7 @@ pub fn satisfy_either(s: &mut [u64], d: u64, j: u64, p: u64)
 // 6 satisfy (caller, event, block or 0, slot). Internal: callers have shown the length, a sound session and the checks.
 pub fn satisfy(s: &mut [u64], caller: u64, e: u64, b: u64, j: u64)
     requires { (words ≤ length s.old) × Holds (sound (read s.old)) × met (satisfy_checks (read s.old) caller e b j) }
-    ensures { Becomes s (rules.satisfy_event (was s) e j b) }
+    ensures { Becomes s.old s.new (rules.satisfy_event (was s.old) e j b) }
 {
     satisfy_event(s, e, j, b);
 }

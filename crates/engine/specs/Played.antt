@@ -3,8 +3,6 @@ use Rattle.std.specs.Prelude.{ℕ, ◌≤◌, ◌<◌, ◌≡◌, refl, true, fa
 use Rattle.std.proofs.Common.{ap, sym, subst, ◌∙◌, arith, le-leb}
 use Rattle.std.proofs.Math.ListN.{get_or-eq_default}
 use Rattle.std.proofs.lemmas.Bool.{lt-leb}
-use Rattle.std.specs.Borrow.{Bor}
-use denote.Triple.Both.{Both}
 use Rattle.session.specs.Table.{Session, Wrote, read, words, pick}
 use Rattle.session.specs.TableLaws.{wrote_none}
 use Rattle.rules.specs.declared.Operation.{Operation}
@@ -47,16 +45,16 @@ abbrev pub operation_of : ℕ → List ℕ → Operation
 operation_of code fields = record { code = code; fields = fields }
 
 -- What the function of a row promises of the words lent to it, called with these fields: its row looks at no code.
-abbrev pub Plays : Rule → List ℕ → Both (Bor (List ℕ)) (Bor (List ℕ)) → Answer → Type 0
-Plays rule fields s r = Played rule (operation_of 0 fields) s.entry.now s.exit.now r
+abbrev pub Plays : Rule → List ℕ → List ℕ → List ℕ → Answer → Type 0
+Plays rule fields ws ws' r = Played rule (operation_of 0 fields) ws ws' r
 
 -- the operation of this code, by the row that it has
 abbrev pub PlayedBy : ℕ → List ℕ → List ℕ → List ℕ → Answer → Type 0
 PlayedBy code fields = let o = operation_of code fields in Played (rule_of o) o
 
 -- What a function promises that takes the code too.
-abbrev pub PlaysCode : ℕ → List ℕ → Both (Bor (List ℕ)) (Bor (List ℕ)) → Answer → Type 0
-PlaysCode code fields s r = PlayedBy code fields s.entry.now s.exit.now r
+abbrev pub PlaysCode : ℕ → List ℕ → List ℕ → List ℕ → Answer → Type 0
+PlaysCode code fields ws ws' r = PlayedBy code fields ws ws' r
 
 -- a refusal
 pub played_refused : (rule : Rule) (o : Operation) (ws : List ℕ) (n : ℕ) → n ≡ refusal (rule.asks (read ws) o) → (n ≡ 0 → ⊥)

@@ -11,7 +11,7 @@ use rules::{Answer, refusals};
 
 pub fn template(s: &mut [u64], caller: u64, n: u64) -> Answer
     requires { (words ≤ length s.old) × Holds (sound (read s.old)) }
-    ensures { Plays template_rule (caller ∷ n ∷ []) s result }
+    ensures { Plays template_rule (caller ∷ n ∷ []) s.old s.new result }
 {
     let refused = checks::template_refusal(s, caller, n);
     if refused != 0 {
@@ -22,7 +22,7 @@ pub fn template(s: &mut [u64], caller: u64, n: u64) -> Answer
 
 pub fn task(s: &mut [u64], caller: u64, tm: u64, n: u64, finish: u64, out: u64) -> Answer
     requires { (words ≤ length s.old) × Holds (sound (read s.old)) }
-    ensures { Plays task_rule (caller ∷ tm ∷ n ∷ finish ∷ out ∷ []) s result }
+    ensures { Plays task_rule (caller ∷ tm ∷ n ∷ finish ∷ out ∷ []) s.old s.new result }
 {
     let refused = checks::task_refusal(s, caller, tm, n, finish, out);
     if refused != 0 {
@@ -33,7 +33,7 @@ pub fn task(s: &mut [u64], caller: u64, tm: u64, n: u64, finish: u64, out: u64) 
 
 pub fn event(s: &mut [u64], caller: u64, ty: u64) -> Answer
     requires { (words ≤ length s.old) × Holds (sound (read s.old)) }
-    ensures { Plays event_rule (caller ∷ ty ∷ []) s result }
+    ensures { Plays event_rule (caller ∷ ty ∷ []) s.old s.new result }
 {
     let refused = checks::event_refusal(s, caller, ty);
     if refused != 0 {
@@ -44,7 +44,7 @@ pub fn event(s: &mut [u64], caller: u64, ty: u64) -> Answer
 
 pub fn block(s: &mut [u64], caller: u64, hold: u64) -> Answer
     requires { (words ≤ length s.old) × Holds (sound (read s.old)) }
-    ensures { Plays block_rule (caller ∷ hold ∷ []) s result }
+    ensures { Plays block_rule (caller ∷ hold ∷ []) s.old s.new result }
 {
     let refused = checks::block_refusal(s, caller, hold);
     if refused != 0 {
@@ -55,7 +55,7 @@ pub fn block(s: &mut [u64], caller: u64, hold: u64) -> Answer
 
 pub fn dependence(s: &mut [u64], caller: u64, source: u64, d: u64, j: u64, mode: u64) -> Answer
     requires { (words ≤ length s.old) × Holds (sound (read s.old)) }
-    ensures { Plays dependence_rule (caller ∷ source ∷ d ∷ j ∷ mode ∷ []) s result }
+    ensures { Plays dependence_rule (caller ∷ source ∷ d ∷ j ∷ mode ∷ []) s.old s.new result }
 {
     let refused = checks::dependence_refusal(s, caller, source, d, j, mode);
     if refused != 0 {
@@ -66,7 +66,7 @@ pub fn dependence(s: &mut [u64], caller: u64, source: u64, d: u64, j: u64, mode:
 
 pub fn satisfy(s: &mut [u64], caller: u64, e: u64, b: u64, j: u64) -> Answer
     requires { (words ≤ length s.old) × Holds (sound (read s.old)) }
-    ensures { Plays satisfy_rule (caller ∷ e ∷ b ∷ j ∷ []) s result }
+    ensures { Plays satisfy_rule (caller ∷ e ∷ b ∷ j ∷ []) s.old s.new result }
 {
     let refused = checks::satisfy_refusal(s, caller, e, b, j);
     if refused != 0 {
@@ -78,7 +78,7 @@ pub fn satisfy(s: &mut [u64], caller: u64, e: u64, b: u64, j: u64) -> Answer
 
 pub fn release(s: &mut [u64], caller: u64, b: u64) -> Answer
     requires { (words ≤ length s.old) × Holds (sound (read s.old)) }
-    ensures { Plays release_rule (caller ∷ b ∷ []) s result }
+    ensures { Plays release_rule (caller ∷ b ∷ []) s.old s.new result }
 {
     let refused = checks::release_refusal(s, caller, b);
     if refused != 0 {
@@ -90,7 +90,7 @@ pub fn release(s: &mut [u64], caller: u64, b: u64) -> Answer
 
 pub fn destroy(s: &mut [u64], caller: u64, h: u64) -> Answer
     requires { (words ≤ length s.old) × Holds (sound (read s.old)) }
-    ensures { Plays destroy_rule (caller ∷ h ∷ []) s result }
+    ensures { Plays destroy_rule (caller ∷ h ∷ []) s.old s.new result }
 {
     let refused = checks::destroy_refusal(s, caller, h);
     if refused != 0 {
@@ -101,7 +101,7 @@ pub fn destroy(s: &mut [u64], caller: u64, h: u64) -> Answer
 
 pub fn deliver(s: &mut [u64], l: u64) -> Answer
     requires { (words ≤ length s.old) × Holds (sound (read s.old)) }
-    ensures { Plays deliver_rule (l ∷ []) s result }
+    ensures { Plays deliver_rule (l ∷ []) s.old s.new result }
 {
     let refused = checks::deliver_refusal(s, l);
     if refused != 0 {
@@ -113,7 +113,7 @@ pub fn deliver(s: &mut [u64], l: u64) -> Answer
 
 pub fn grant(s: &mut [u64], t: u64) -> Answer
     requires { (words ≤ length s.old) × Holds (sound (read s.old)) }
-    ensures { Plays grant_rule (t ∷ []) s result }
+    ensures { Plays grant_rule (t ∷ []) s.old s.new result }
 {
     let refused = checks::grant_refusal(s, t);
     if refused != 0 {
@@ -125,7 +125,7 @@ pub fn grant(s: &mut [u64], t: u64) -> Answer
 
 pub fn start(s: &mut [u64], t: u64) -> Answer
     requires { (words ≤ length s.old) × Holds (sound (read s.old)) }
-    ensures { Plays start_rule (t ∷ []) s result }
+    ensures { Plays start_rule (t ∷ []) s.old s.new result }
 {
     let refused = checks::start_refusal(s, t);
     if refused != 0 {
@@ -137,7 +137,7 @@ pub fn start(s: &mut [u64], t: u64) -> Answer
 
 pub fn end(s: &mut [u64], t: u64, b: u64) -> Answer
     requires { (words ≤ length s.old) × Holds (sound (read s.old)) }
-    ensures { Plays end_rule (t ∷ b ∷ []) s result }
+    ensures { Plays end_rule (t ∷ b ∷ []) s.old s.new result }
 {
     let refused = checks::end_refusal(s, t, b);
     if refused != 0 {
@@ -148,7 +148,7 @@ pub fn end(s: &mut [u64], t: u64, b: u64) -> Answer
 
 pub fn counted(s: &mut [u64], caller: u64, n: u64) -> Answer
     requires { (words ≤ length s.old) × Holds (sound (read s.old)) }
-    ensures { Plays counted_rule (caller ∷ n ∷ []) s result }
+    ensures { Plays counted_rule (caller ∷ n ∷ []) s.old s.new result }
 {
     let refused = checks::counted_refusal(s, caller, n);
     if refused != 0 {
@@ -160,7 +160,7 @@ pub fn counted(s: &mut [u64], caller: u64, n: u64) -> Answer
 // Codes below 5: what makes objects.
 pub fn make(s: &mut [u64], code: u64, f: [u64; 5]) -> Answer
     requires { (words ≤ length s.old) × Holds (sound (read s.old)) × (code < 5) }
-    ensures { PlaysCode code f s result }
+    ensures { PlaysCode code f s.old s.new result }
 {
     match code {
         1 => template(s, f[0], f[1]),
@@ -174,7 +174,7 @@ pub fn make(s: &mut [u64], code: u64, f: [u64; 5]) -> Answer
 // Codes 5 to 8: the other calls of a running task.
 pub fn call(s: &mut [u64], code: u64, f: [u64; 5]) -> Answer
     requires { (words ≤ length s.old) × Holds (sound (read s.old)) × (5 ≤ code) × (code < 9) }
-    ensures { PlaysCode code f s result }
+    ensures { PlaysCode code f s.old s.new result }
 {
     match code {
         5 => dependence(s, f[0], f[1], f[2], f[3], f[4]),
@@ -187,7 +187,7 @@ pub fn call(s: &mut [u64], code: u64, f: [u64; 5]) -> Answer
 // Codes from 9 on: the moves, which have no caller, what edition 2 adds, and the codes that there are not.
 pub fn move_on(s: &mut [u64], code: u64, f: [u64; 5]) -> Answer
     requires { (words ≤ length s.old) × Holds (sound (read s.old)) × (9 ≤ code) }
-    ensures { PlaysCode code f s result }
+    ensures { PlaysCode code f s.old s.new result }
 {
     match code {
         9 => deliver(s, f[0]),

@@ -17,7 +17,7 @@ use session::{Field, names};
 // Slot j of task t is held if it has a block. Internal: callers have shown the length and the slot.
 fn hold_slot(s: &mut [u64], t: u64, j: u64)
     requires { (words ≤ length s.old) × (t ≤ most_objects) × (j < 16) }
-    ensures { Becomes s (put (was s) SlotMark (t * 16 + j) (grant_row t (t * 16 + j) (row (was s) (t * 16 + j)))) }
+    ensures { Becomes s.old s.new (put (was s.old) SlotMark (t * 16 + j) (grant_row t (t * 16 + j) (row (was s.old) (t * 16 + j)))) }
 {
     let i = (t * 16 + j) as usize;
     if 1 <= session::get(s, Field::SlotPayload, i) {
@@ -28,7 +28,7 @@ fn hold_slot(s: &mut [u64], t: u64, j: u64)
 // Every slot of task t that has a block is held. Internal, as `hold_slot` is.
 fn hold_slots(s: &mut [u64], t: u64)
     requires { (words ≤ length s.old) × (t ≤ most_objects) }
-    ensures { Becomes s (slots_granted (was s) t) }
+    ensures { Becomes s.old s.new (slots_granted (was s.old) t) }
 {
     let mut j: u64 = 0;
     while j < 16 {
@@ -40,7 +40,7 @@ fn hold_slots(s: &mut [u64], t: u64)
 // 10 grant (task): it gets its blocks, all together. Internal: callers have shown the length, a sound session and the checks.
 pub fn grant(s: &mut [u64], t: u64)
     requires { (words ≤ length s.old) × Holds (sound (read s.old)) × met (grant_checks (read s.old) t) }
-    ensures { Becomes s (grant (was s) t) }
+    ensures { Becomes s.old s.new (grant (was s.old) t) }
 {
     hold_slots(s, t);
     session::set(s, Field::TaskState, t as usize, names::GRANTED);
@@ -49,7 +49,7 @@ pub fn grant(s: &mut [u64], t: u64)
 // 11 start (task). Internal, as `grant` is.
 pub fn start(s: &mut [u64], t: u64)
     requires { (words ≤ length s.old) × Holds (sound (read s.old)) × met (start_checks (read s.old) t) }
-    ensures { Becomes s (start (was s) t) }
+    ensures { Becomes s.old s.new (start (was s.old) t) }
 {
     session::set(s, Field::TaskState, t as usize, names::RUNNING);
 }

@@ -35,7 +35,7 @@ fn mark_after(mark: u64, payload: u64, b: u64) -> u64
 // Slot j of task t lets go of block b, or of any where b is 0. Internal: callers have shown the length and the slot.
 fn drop_slot(s: &mut [u64], t: u64, b: u64, j: u64)
     requires { (words ≤ length s.old) × (t ≤ most_objects) × (j < 16) }
-    ensures { Becomes s (put (was s) SlotMark (t * 16 + j) (mark_row t b (t * 16 + j) (row (was s) (t * 16 + j)))) }
+    ensures { Becomes s.old s.new (put (was s.old) SlotMark (t * 16 + j) (mark_row t b (t * 16 + j) (row (was s.old) (t * 16 + j)))) }
 {
     let i = (t * 16 + j) as usize;
     let mark = session::get(s, Field::SlotMark, i);
@@ -46,7 +46,7 @@ fn drop_slot(s: &mut [u64], t: u64, b: u64, j: u64)
 // The slots of task t let go of block b, or of all where b is 0. Internal, as `drop_slot` is.
 fn drop_slots(s: &mut [u64], t: u64, b: u64)
     requires { (words ≤ length s.old) × (t ≤ most_objects) }
-    ensures { Becomes s (slots_let_go (was s) t b) }
+    ensures { Becomes s.old s.new (slots_let_go (was s.old) t b) }
 {
     let mut j: u64 = 0;
     while j < 16 {
@@ -58,7 +58,7 @@ fn drop_slots(s: &mut [u64], t: u64, b: u64)
 // Block b is no longer held from its creation if t made it. Internal: callers have shown the length and the handle.
 fn drop_made(s: &mut [u64], t: u64, b: u64)
     requires { (words ≤ length s.old) × (b ≤ most_objects) }
-    ensures { Becomes s (put (was s) BlockHeld b (made_row t b (row (was s) b))) }
+    ensures { Becomes s.old s.new (put (was s.old) BlockHeld b (made_row t b (row (was s.old) b))) }
 {
     let at = b as usize;
     if session::get(s, Field::BlockCreator, at) == t {
@@ -70,7 +70,7 @@ fn drop_made(s: &mut [u64], t: u64, b: u64)
 // of objects are empty.
 fn drop_all_made(s: &mut [u64], t: u64)
     requires { (words ≤ length s.old) × (read s.old Objects 0 ≤ most_objects) × Unheld (read s.old) }
-    ensures { Becomes s (made_let_go (was s) t) }
+    ensures { Becomes s.old s.new (made_let_go (was s.old) t) }
 {
     let n = session::get(s, Field::Objects, 0) as usize;
     let mut b: usize = 0;
@@ -83,7 +83,7 @@ fn drop_all_made(s: &mut [u64], t: u64)
 // Block b is destroyed if it is doomed and nobody holds it. Internal, as `is_held` is.
 fn bury(s: &mut [u64], b: u64)
     requires { (words ≤ length s.old) × (read s.old Objects 0 ≤ most_objects) × (b ≤ most_objects) × Active (read s.old) }
-    ensures { Becomes s (put (was s) BlockState b (buried (was s) b)) }
+    ensures { Becomes s.old s.new (put (was s.old) BlockState b (buried (was s.old) b)) }
 {
     if session::get(s, Field::BlockState, b as usize) == names::DOOMED {
         if reading::is_held(s, b) {
@@ -97,7 +97,7 @@ fn bury(s: &mut [u64], b: u64)
 fn bury_all(s: &mut [u64])
     requires { (words ≤ length s.old) × (read s.old Objects 0 ≤ most_objects) × Unmarked (read s.old)
         × Active (read s.old) }
-    ensures { Becomes s (bury_doomed (was s)) }
+    ensures { Becomes s.old s.new (bury_doomed (was s.old)) }
 {
     let n = session::get(s, Field::Objects, 0) as usize;
     let mut b: usize = 0;
@@ -112,7 +112,7 @@ fn bury_all(s: &mut [u64])
 pub fn let_go_block(s: &mut [u64], t: u64, b: u64)
     requires { (words ≤ length s.old) × (read s.old Objects 0 ≤ most_objects) × (t ≤ most_objects) × (1 ≤ b)
         × (b ≤ most_objects) × Doomed (read s.old) × Active (read s.old) }
-    ensures { Becomes s (release (was s) t b) }
+    ensures { Becomes s.old s.new (release (was s.old) t b) }
 {
     drop_slots(s, t, b);
     drop_made(s, t, b);
@@ -124,7 +124,7 @@ pub fn let_go_block(s: &mut [u64], t: u64, b: u64)
 pub fn let_go_all(s: &mut [u64], t: u64)
     requires { (words ≤ length s.old) × (read s.old Objects 0 ≤ most_objects) × (t ≤ most_objects) × Unheld (read s.old)
         × Unmarked (read s.old) × Active (read s.old) }
-    ensures { Becomes s (let_go (was s) t (λ k. 0 ≐ 0)) }
+    ensures { Becomes s.old s.new (let_go (was s.old) t (λ k. 0 ≐ 0)) }
 {
     drop_slots(s, t, 0);
     drop_all_made(s, t);
@@ -135,7 +135,7 @@ pub fn let_go_all(s: &mut [u64], t: u64)
 // checks.
 pub fn release(s: &mut [u64], caller: u64, b: u64)
     requires { (words ≤ length s.old) × Holds (sound (read s.old)) × met (release_checks (read s.old) caller b) }
-    ensures { Becomes s (release (was s) caller b) }
+    ensures { Becomes s.old s.new (release (was s.old) caller b) }
 {
     let_go_block(s, caller, b);
 }

@@ -20,14 +20,14 @@ struct FromEvent {
 
 fn leads_from(s: &[u64], e: u64, l: u64) -> bool
     requires { words ≤ length s.now }
-    ensures { result ≡ test (leads_from (was s) e l) }
+    ensures { result ≡ test (leads_from (was s.now) e l) }
 {
     of_link(s, Field::LinkSource, l) == e
 }
 
 fn is_served_from(s: &[u64], e: u64, l: u64) -> bool
     requires { words ≤ length s.now }
-    ensures { result ≡ test (served_from (was s) e l) }
+    ensures { result ≡ test (served_from (was s.now) e l) }
 {
     leads_from(s, e, l) & (of_link(s, Field::LinkState, l) == names::DELIVERED)
 }
@@ -46,8 +46,8 @@ fn one(yes: bool) -> u64
 // How many of n links lead from event e, and how many of these are delivered.
 fn links_from(s: &[u64], n: u64, e: u64) -> FromEvent
     requires { (words ≤ length s.now) × (n ≤ most_links) }
-    ensures made { result.made ≡ count (n + 1) (leads_from (was s) e) }
-    ensures delivered { result.delivered ≡ count (n + 1) (served_from (was s) e) }
+    ensures made { result.made ≡ count (n + 1) (leads_from (was s.now) e) }
+    ensures delivered { result.delivered ≡ count (n + 1) (served_from (was s.now) e) }
     ensures few { result.delivered ≤ link_places }
 {
     let mut made: u64 = 0;
@@ -64,7 +64,7 @@ fn links_from(s: &[u64], n: u64, e: u64) -> FromEvent
 // Whether e is a counted event that already has its count of links.
 pub fn has_its_count(s: &[u64], e: u64) -> bool
     requires { (words ≤ length s.now) × (read s.now Links 0 ≤ most_links) }
-    ensures { result ≡ test (has_its_count (was s) e) }
+    ensures { result ≡ test (has_its_count (was s.now) e) }
 {
     if of_object(s, Field::EventType, e) != names::COUNTED {
         return false;
@@ -76,7 +76,7 @@ pub fn has_its_count(s: &[u64], e: u64) -> bool
 // Whether e is a counted event of whose count of links all but one have been delivered.
 fn lacks_one(s: &[u64], e: u64) -> bool
     requires { (words ≤ length s.now) × (read s.now Links 0 ≤ most_links) }
-    ensures { result ≡ test (lacks_one (was s) e) }
+    ensures { result ≡ test (lacks_one (was s.now) e) }
 {
     if of_object(s, Field::EventType, e) != names::COUNTED {
         return false;
@@ -88,7 +88,7 @@ fn lacks_one(s: &[u64], e: u64) -> bool
 // Whether link l is the last one that its event serves.
 pub fn serves_last(s: &[u64], l: u64) -> bool
     requires { (words ≤ length s.now) × (read s.now Links 0 ≤ most_links) }
-    ensures { result ≡ test (serves_last (was s) l) }
+    ensures { result ≡ test (serves_last (was s.now) l) }
 {
     lacks_one(s, of_link(s, Field::LinkSource, l))
 }

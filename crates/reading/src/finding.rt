@@ -12,7 +12,7 @@ use session::Field;
 // Internal: callers have shown the length and the places.
 fn has_value(s: &[u64], f: Field, v: u64, i: usize) -> bool
     requires { (words ≤ length s.now) × (size f ≡ object_places) × (i + 8 ≤ object_places) }
-    ensures { result ≡ test (near (was s) f v i) }
+    ensures { result ≡ test (near (was s.now) f v i) }
 {
     let mut k: usize = 0;
     while k < 8 {
@@ -28,7 +28,7 @@ fn has_value(s: &[u64], f: Field, v: u64, i: usize) -> bool
 // places.
 fn past_eights(s: &[u64], f: Field, v: u64, from: usize, end: usize) -> usize
     requires { (words ≤ length s.now) × (size f ≡ object_places) × (from ≤ end) × (end ≤ object_places) }
-    ensures { Passed (was s) f v from result × (result ≤ end) }
+    ensures { Passed (was s.now) f v from result × (result ≤ end) }
 {
     let mut i = from;
     while i + 8 <= end {
@@ -43,7 +43,7 @@ fn past_eights(s: &[u64], f: Field, v: u64, from: usize, end: usize) -> usize
 // The first place from `from` on and before `end` that has v in field f, or `end` if there is none. Internal, as `past_eights` is.
 pub fn find(s: &[u64], f: Field, v: u64, from: usize, end: usize) -> usize
     requires { (words ≤ length s.now) × (size f ≡ object_places) × (from ≤ end) × (end ≤ object_places) }
-    ensures { Found (was s) f v from end result }
+    ensures { Found (was s.now) f v from end result }
 {
     let mut i = past_eights(s, f, v, from, end);
     while i < end {

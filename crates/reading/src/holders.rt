@@ -12,7 +12,7 @@ use session::{Field, names};
 // Whether task h may hold blocks by its slots.
 fn is_holder(s: &[u64], h: usize) -> bool
     requires { (words ≤ length s.now) × (h < object_places) }
-    ensures { result ≡ test (is_holder (was s) h) }
+    ensures { result ≡ test (is_holder (was s.now) h) }
 {
     let state = session::get(s, Field::TaskState, h);
     if state == names::GRANTED {
@@ -25,7 +25,7 @@ fn is_holder(s: &[u64], h: usize) -> bool
 // eight tests in a row of it.
 fn has_holder(s: &[u64], h: usize) -> bool
     requires { (words ≤ length s.now) × (h + 8 ≤ object_places) }
-    ensures { result ≡ test (some 8 (λ n. is_holder (was s) (h + n))) }
+    ensures { result ≡ test (some 8 (λ n. is_holder (was s.now) (h + n))) }
 {
     let mut n: usize = 0;
     while n < 8 {
@@ -40,7 +40,7 @@ fn has_holder(s: &[u64], h: usize) -> bool
 // The first holder from `from` on, or n if none is before it. Eight handles at a time are passed over first.
 pub fn next_holder(s: &[u64], n: usize, from: usize) -> usize
     requires { (words ≤ length s.now) × (from ≤ n) × (n ≤ object_places) }
-    ensures { First (is_holder (was s)) from n result }
+    ensures { First (is_holder (was s.now)) from n result }
 {
     let mut h = from;
     while h + 8 <= n {

@@ -15,7 +15,7 @@ use session::{Field, names};
 // Whether the slot at place i holds block b. Internal, as `get` is.
 fn slot_holds(s: &[u64], b: u64, i: usize) -> bool
     requires { (words ≤ length s.now) × (i < slot_places) }
-    ensures { result ≡ test (slot_holds (was s) b i) }
+    ensures { result ≡ test (slot_holds (was s.now) b i) }
 {
     if session::get(s, Field::SlotMark, i) != names::HELD {
         return false;
@@ -26,7 +26,7 @@ fn slot_holds(s: &[u64], b: u64, i: usize) -> bool
 // Whether some slot of task h holds block b. Internal, as `get` is.
 fn task_holds(s: &[u64], b: u64, h: u64) -> bool
     requires { (words ≤ length s.now) × (h ≤ most_objects) }
-    ensures { result ≡ test (slots_hold (was s) b h) }
+    ensures { result ≡ test (slots_hold (was s.now) b h) }
 {
     let mut j: u64 = 0;
     while j < 16 {
@@ -41,7 +41,7 @@ fn task_holds(s: &[u64], b: u64, h: u64) -> bool
 // Whether task t holds block b since it made it.
 fn holds_made(s: &[u64], t: u64, b: u64) -> bool
     requires { words ≤ length s.now }
-    ensures { result ≡ test (holds_made (was s) t b) }
+    ensures { result ≡ test (holds_made (was s.now) t b) }
 {
     if of_object(s, Field::BlockHeld, b) != 1 {
         return false;
@@ -52,7 +52,7 @@ fn holds_made(s: &[u64], t: u64, b: u64) -> bool
 // Whether task t holds block b, by a slot or since it made the block; past the last handle there is no slot.
 pub fn holds_block(s: &[u64], t: u64, b: u64) -> bool
     requires { words ≤ length s.now }
-    ensures { result ≡ test (holds_block (was s) t b) }
+    ensures { result ≡ test (holds_block (was s.now) t b) }
 {
     if holds_made(s, t, b) {
         return true;
@@ -66,7 +66,7 @@ pub fn holds_block(s: &[u64], t: u64, b: u64) -> bool
 // The same as `task_holds`, with a look at the pre-slots only: no other slot holds. Internal: callers have shown that.
 fn holder_holds(s: &[u64], b: u64, h: u64) -> bool
     requires { (words ≤ length s.now) × (h ≤ most_objects) × (h ≤ read s.now Objects 0) × Active (read s.now) }
-    ensures { result ≡ test (slots_hold (was s) b h) }
+    ensures { result ≡ test (slots_hold (was s.now) b h) }
 {
     let n = session::get(s, Field::TaskSlots, h as usize);
     let mut j: u64 = 0;
@@ -86,7 +86,7 @@ fn holder_holds(s: &[u64], b: u64, h: u64) -> bool
 // and running tasks hold.
 pub fn is_held(s: &[u64], b: u64) -> bool
     requires { (words ≤ length s.now) × (read s.now Objects 0 ≤ most_objects) × (b ≤ most_objects) × Active (read s.now) }
-    ensures { result ≡ test (is_held (was s) b) }
+    ensures { result ≡ test (is_held (was s.now) b) }
 {
     if session::get(s, Field::BlockHeld, b as usize) == 1 {
         return true;

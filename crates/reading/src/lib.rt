@@ -25,7 +25,7 @@ use session::{Field, names};
 // The number in a field of objects at any place at all, 0 past its end.
 pub fn of_object(s: &[u64], f: Field, h: u64) -> u64
     requires { (words ≤ length s.now) × (size f ≡ object_places) }
-    ensures { result ≡ was s f h }
+    ensures { result ≡ was s.now f h }
 {
     if names::MOST_OBJECTS < h {
         return 0;
@@ -36,7 +36,7 @@ pub fn of_object(s: &[u64], f: Field, h: u64) -> u64
 // The number in a field of slots at any place at all, 0 past its end.
 pub fn of_slot(s: &[u64], f: Field, i: u64) -> u64
     requires { (words ≤ length s.now) × (size f ≡ slot_places) }
-    ensures { result ≡ was s f i }
+    ensures { result ≡ was s.now f i }
 {
     if names::SLOT_PLACES as u64 <= i {
         return 0;
@@ -47,7 +47,7 @@ pub fn of_slot(s: &[u64], f: Field, i: u64) -> u64
 // The same at slot j of handle h, whatever these are.
 pub fn of_slot_at(s: &[u64], f: Field, h: u64, j: u64) -> u64
     requires { (words ≤ length s.now) × (size f ≡ slot_places) }
-    ensures { result ≡ was s f (at h j) }
+    ensures { result ≡ was s.now f (at h j) }
 {
     if names::MOST_OBJECTS < h {
         return 0;
@@ -61,7 +61,7 @@ pub fn of_slot_at(s: &[u64], f: Field, h: u64, j: u64) -> u64
 // The number in a field of links at any place at all, 0 past its end.
 pub fn of_link(s: &[u64], f: Field, l: u64) -> u64
     requires { (words ≤ length s.now) × (size f ≡ link_places) }
-    ensures { result ≡ was s f l }
+    ensures { result ≡ was s.now f l }
 {
     if names::MOST_LINKS < l {
         return 0;

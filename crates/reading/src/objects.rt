@@ -19,14 +19,14 @@ use session::{Field, names};
 // Whether a number is the handle of an object.
 pub fn is_made(s: &[u64], h: u64) -> bool
     requires { words ≤ length s.now }
-    ensures { result ≡ test (made (was s) h) }
+    ensures { result ≡ test (made (was s.now) h) }
 {
     (1 <= h) & (h <= session::get(s, Field::Objects, 0))
 }
 
 pub fn is_kind(s: &[u64], k: u64, h: u64) -> bool
     requires { words ≤ length s.now }
-    ensures { result ≡ test (is_kind (was s) k h) }
+    ensures { result ≡ test (is_kind (was s.now) k h) }
 {
     of_object(s, Field::Kind, h) == k
 }
@@ -34,7 +34,7 @@ pub fn is_kind(s: &[u64], k: u64, h: u64) -> bool
 // Whether an object is an event of a type that a call may name.
 pub fn is_user_event(s: &[u64], h: u64) -> bool
     requires { words ≤ length s.now }
-    ensures { result ≡ test (is_user_event (was s) h) }
+    ensures { result ≡ test (is_user_event (was s.now) h) }
 {
     (of_object(s, Field::Kind, h) == names::EVENT) & is_user_type(of_object(s, Field::EventType, h))
 }
@@ -42,7 +42,7 @@ pub fn is_user_event(s: &[u64], h: u64) -> bool
 // As a caller must be.
 pub fn is_running(s: &[u64], h: u64) -> bool
     requires { words ≤ length s.now }
-    ensures { result ≡ test (is_running (was s) h) }
+    ensures { result ≡ test (is_running (was s.now) h) }
 {
     if !is_made(s, h) {
         return false;
@@ -56,7 +56,7 @@ pub fn is_running(s: &[u64], h: u64) -> bool
 // Whether h is a live task; callers have shown that h has a place.
 pub fn is_live(s: &[u64], h: u64) -> bool
     requires { (words ≤ length s.now) × (h ≤ most_objects) }
-    ensures { result ≡ test (is_live (was s) h) }
+    ensures { result ≡ test (is_live (was s.now) h) }
 {
     if session::get(s, Field::Kind, h as usize) != names::TASK {
         return false;
@@ -67,7 +67,7 @@ pub fn is_live(s: &[u64], h: u64) -> bool
 // A destroyed event, or one that counts as gone since it has fired.
 pub fn is_spent(s: &[u64], e: u64) -> bool
     requires { words ≤ length s.now }
-    ensures { result ≡ test (is_spent (was s) e) }
+    ensures { result ≡ test (is_spent (was s.now) e) }
 {
     let state = of_object(s, Field::EventState, e);
     if names::DESTROYED_UNFIRED <= state {
@@ -81,7 +81,7 @@ pub fn is_spent(s: &[u64], e: u64) -> bool
 
 pub fn is_gone(s: &[u64], h: u64) -> bool
     requires { words ≤ length s.now }
-    ensures { result ≡ test (is_gone (was s) h) }
+    ensures { result ≡ test (is_gone (was s.now) h) }
 {
     let kind = of_object(s, Field::Kind, h);
     if kind == names::TEMPLATE {
@@ -102,7 +102,7 @@ pub fn is_gone(s: &[u64], h: u64) -> bool
 // Whether an event has a slot of that number. Internal: callers have shown the length, and that it is an event.
 pub fn has_event_slot(s: &[u64], e: u64, j: u64) -> bool
     requires { (words ≤ length s.now) × Holds (is_kind (read s.now) event e) }
-    ensures { result ≡ test (has_slot (was s) e j) }
+    ensures { result ≡ test (has_slot (was s.now) e j) }
 {
     has_type_slot(of_object(s, Field::EventType, e), j)
 }
@@ -110,7 +110,7 @@ pub fn has_event_slot(s: &[u64], e: u64, j: u64) -> bool
 // Whether an object has a slot of that number.
 pub fn has_slot(s: &[u64], h: u64, j: u64) -> bool
     requires { words ≤ length s.now }
-    ensures { result ≡ test (has_slot (was s) h j) }
+    ensures { result ≡ test (has_slot (was s.now) h j) }
 {
     let kind = of_object(s, Field::Kind, h);
     if kind == names::TASK {
@@ -125,7 +125,7 @@ pub fn has_slot(s: &[u64], h: u64, j: u64) -> bool
 // Whether a satisfaction of slot j would take the latch e out of its range.
 pub fn overflows(s: &[u64], e: u64, j: u64) -> bool
     requires { words ≤ length s.now }
-    ensures { result ≡ test (overflows (was s) e j) }
+    ensures { result ≡ test (overflows (was s.now) e j) }
 {
     if !is_kind(s, names::EVENT, e) {
         return false;
@@ -145,7 +145,7 @@ pub fn overflows(s: &[u64], e: u64, j: u64) -> bool
 
 pub fn is_fired_sticky(s: &[u64], e: u64) -> bool
     requires { words ≤ length s.now }
-    ensures { result ≡ test (is_fired_sticky (was s) e) }
+    ensures { result ≡ test (is_fired_sticky (was s.now) e) }
 {
     if !is_kind(s, names::EVENT, e) {
         return false;
@@ -159,7 +159,7 @@ pub fn is_fired_sticky(s: &[u64], e: u64) -> bool
 // Whether a delivery to slot j of d is dropped.
 pub fn drops(s: &[u64], d: u64, j: u64) -> bool
     requires { words ≤ length s.now }
-    ensures { result ≡ test (drops (was s) d j) }
+    ensures { result ≡ test (drops (was s.now) d j) }
 {
     if is_gone(s, d) {
         return true;
@@ -173,7 +173,7 @@ pub fn drops(s: &[u64], d: u64, j: u64) -> bool
 // How many pre-slots a task gets: 17 takes the template's count.
 pub fn task_slots(s: &[u64], template: u64, n: u64) -> u64
     requires { words ≤ length s.now }
-    ensures { result ≡ task_slots (was s) template n }
+    ensures { result ≡ task_slots (was s.now) template n }
 {
     if n == names::UNKNOWN_COUNT {
         return of_object(s, Field::TemplateCount, template);
@@ -185,7 +185,7 @@ pub fn task_slots(s: &[u64], template: u64, n: u64) -> u64
 // task. Internal: callers have shown the length, the handle and the count of slots.
 pub fn is_full(s: &[u64], t: u64) -> bool
     requires { (words ≤ length s.now) × (t ≤ most_objects) × (read s.now TaskSlots t ≤ 16) }
-    ensures { result ≡ test (full (was s) t) }
+    ensures { result ≡ test (full (was s.now) t) }
 {
     let n = session::get(s, Field::TaskSlots, t as usize) as usize;
     let first = t as usize * 16;
@@ -201,7 +201,7 @@ pub fn is_full(s: &[u64], t: u64) -> bool
 // Whether a link is open or ready; callers have shown that it has a place.
 pub fn is_undelivered(s: &[u64], l: u64) -> bool
     requires { (words ≤ length s.now) × (l ≤ most_links) }
-    ensures { result ≡ test (is_undelivered (was s) l) }
+    ensures { result ≡ test (is_undelivered (was s.now) l) }
 {
     if session::get(s, Field::LinkState, l as usize) == names::LINK_OPEN {
         return true;

@@ -26,7 +26,7 @@ pub struct Walk {
 // none. That few tasks have ended is looked at first. Internal: callers have shown the length, a tidy session and the handle.
 pub fn task_waits(s: &[u64], h: u64) -> bool
     requires { (words ≤ length s.now) × Tidy (read s.now) × (h ≤ read s.now Objects 0) }
-    ensures { result ≡ test (waits (was s) h) }
+    ensures { result ≡ test (waits (was s.now) h) }
 {
     let t = h as usize;
     if session::get(s, Field::TaskState, t) != names::ENDED {
@@ -53,7 +53,7 @@ pub fn task_waits(s: &[u64], h: u64) -> bool
 // The creator of task h, or 0 if it is live: no task above a live one can be done. Internal, as `task_waits` is.
 pub fn done_creator(s: &[u64], h: u64) -> u64
     requires { (words ≤ length s.now) × Tidy (read s.now) × (h ≤ read s.now Objects 0) }
-    ensures { result ≡ done_creator (was s) h }
+    ensures { result ≡ done_creator (was s.now) h }
 {
     let c = session::get(s, Field::TaskCreator, h as usize);
     if session::get(s, Field::TaskState, c as usize) <= names::RUNNING {
@@ -65,7 +65,7 @@ pub fn done_creator(s: &[u64], h: u64) -> u64
 // The first step of a climb from task h: none from main, which has no creator. Internal, as `task_waits` is.
 pub fn first_step(s: &[u64], h: u64) -> u64
     requires { (words ≤ length s.now) × Tidy (read s.now) × (h ≤ read s.now Objects 0) }
-    ensures { result ≡ choose (1 ≼ was s TaskCreator h) 1 0 }
+    ensures { result ≡ choose (1 ≼ was s.now TaskCreator h) 1 0 }
 {
     let creator = session::get(s, Field::TaskCreator, h as usize);
     if creator == 0 {
@@ -79,7 +79,7 @@ pub fn first_step(s: &[u64], h: u64) -> u64
 fn mark_task(s: &[u64], fires: &mut [u8], found: u64, h: u64) -> u64
     requires { (words ≤ length s.now) × Tidy (read s.now) × (1 ≤ h) × (Holds (busy (read s.now) h) → ⊥)
         × (length fires.old ≡ object_places) × Climbed (read s.now) fires.old found h }
-    ensures { Climbed (was s) fires.new result (done_creator (was s) h) }
+    ensures { Climbed (was s.now) fires.new result (done_creator (was s.now) h) }
 {
     if task_waits(s, h) {
         fires[(h + 1) as usize] = 1;
@@ -97,7 +97,7 @@ pub fn climb(s: &[u64], live: &[u8], fires: &mut [u8], walk: Walk, h: u64) -> Wa
     requires { (words ≤ length s.now) × Tidy (read s.now) × (1 ≤ h) × (read s.now TaskState h ≤ running → ⊥)
         × (length live.now ≡ object_places) × Shows live.now (busy (read s.now)) × (length fires.old ≡ object_places)
         × Climbed (read s.now) fires.old walk.found h × (walk.steps + h ≤ most_objects) }
-    ensures { Walked (was s) fires.new walk result h }
+    ensures { Walked (was s.now) fires.new walk result h }
 {
     if live[h as usize] != 0 {
         return walk;

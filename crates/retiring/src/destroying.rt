@@ -27,7 +27,7 @@ use session::{Field, names};
 // The open links of event e are cut; ready ones still deliver. Internal: callers have shown the length and the links' count.
 fn cut_links(s: &mut [u64], e: u64)
     requires { (words ≤ length s.old) × (read s.old Links 0 ≤ most_links) × NoMoreLinks (read s.old) }
-    ensures { Becomes s (links_cut (was s) e) }
+    ensures { Becomes s.old s.new (links_cut (was s.old) e) }
 {
     effects::set_open_links(s, e, names::CUT);
 }
@@ -46,7 +46,7 @@ fn retired_state(state: u64) -> u64
 fn destroy_event(s: &mut [u64], e: u64)
     requires { (words ≤ length s.old) × (e ≤ most_objects) × (read s.old Links 0 ≤ most_links)
         × NoMoreLinks (read s.old) }
-    ensures { Becomes s (destroy_event (was s) e) }
+    ensures { Becomes s.old s.new (destroy_event (was s.old) e) }
 {
     let state = session::get(s, Field::EventState, e as usize);
     session::set(s, Field::EventState, e as usize, retired_state(state));
@@ -56,7 +56,7 @@ fn destroy_event(s: &mut [u64], e: u64)
 // Destroys the output event of task t, if it has one. Internal: callers have shown the length, the handles and a tidy session.
 fn destroy_output(s: &mut [u64], t: u64)
     requires { (words ≤ length s.old) × (t ≤ most_objects) × Tidy (read s.old) × OutputLow (read s.old) t }
-    ensures { Becomes s (output_destroyed (was s) t) }
+    ensures { Becomes s.old s.new (output_destroyed (was s.old) t) }
 {
     if session::get(s, Field::TaskOutput, t as usize) == 1 {
         destroy_event(s, t + 1);
@@ -68,7 +68,7 @@ fn destroy_output(s: &mut [u64], t: u64)
 fn destroy_task(s: &mut [u64], t: u64) -> u64
     requires { (words ≤ length s.old) × (t ≤ most_objects) × Tidy (read s.old) × OutputLow (read s.old) t
         × Holds (made (read s.old) t) × Holds (outputs (read s.old)) × Childless (read s.old) t }
-    ensures { Made s.old s.new (destroy_task (was s) t) (climbed (destroy_task (was s) t) t) result }
+    ensures { Made s.old s.new (destroy_task (was s.old) t) (climbed (destroy_task (was s.old) t) t) result }
 {
     session::set(s, Field::TaskState, t as usize, names::TASK_DESTROYED);
     destroy_output(s, t);
@@ -78,7 +78,7 @@ fn destroy_task(s: &mut [u64], t: u64) -> u64
 // The state of block b once it is destroyed: doomed while somebody holds it. Internal, as `is_held` is.
 fn fate_of(s: &[u64], b: u64) -> u64
     requires { (words ≤ length s.now) × (read s.now Objects 0 ≤ most_objects) × (b ≤ most_objects) × Active (read s.now) }
-    ensures { result ≡ fate (was s) b }
+    ensures { result ≡ fate (was s.now) b }
 {
     if reading::is_held(s, b) {
         return names::DOOMED;
@@ -90,7 +90,7 @@ fn fate_of(s: &[u64], b: u64) -> u64
 fn destroy_block(s: &mut [u64], t: u64, b: u64)
     requires { (words ≤ length s.old) × (read s.old Objects 0 ≤ most_objects) × (t ≤ most_objects) × (1 ≤ b)
         × (b ≤ most_objects) × Doomed (read s.old) × Active (read s.old) }
-    ensures { Becomes s (destroy_block (was s) t b) }
+    ensures { Becomes s.old s.new (destroy_block (was s.old) t b) }
 {
     holding::let_go_block(s, t, b);
     let state = fate_of(s, b);
@@ -101,7 +101,7 @@ fn destroy_block(s: &mut [u64], t: u64, b: u64)
 // have shown the length, a sound session and the checks.
 pub fn destroy(s: &mut [u64], caller: u64, h: u64) -> u64
     requires { (words ≤ length s.old) × Holds (sound (read s.old)) × met (destroy_checks (read s.old) caller h) }
-    ensures { Made s.old s.new (destroy (was s) caller h) (destroy_climbs (was s) caller h) result }
+    ensures { Made s.old s.new (destroy (was s.old) caller h) (destroy_climbs (was s.old) caller h) result }
 {
     let kind = session::get(s, Field::Kind, h as usize);
     if kind == names::TEMPLATE {

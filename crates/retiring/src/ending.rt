@@ -20,7 +20,7 @@ use session::{Field, names};
 // handles and a tidy session.
 fn fire_output(s: &mut [u64], t: u64, b: u64)
     requires { (words ≤ length s.old) × (t ≤ most_objects) × Tidy (read s.old) × OutputLow (read s.old) t }
-    ensures { Becomes s (output_fired (was s) t b) }
+    ensures { Becomes s.old s.new (output_fired (was s.old) t b) }
 {
     if session::get(s, Field::TaskOutput, t as usize) == 1 {
         if session::get(s, Field::TaskFinish, t as usize) == 0 {
@@ -33,7 +33,7 @@ fn fire_output(s: &mut [u64], t: u64, b: u64)
 // and the checks.
 pub fn end(s: &mut [u64], t: u64, b: u64) -> u64
     requires { (words ≤ length s.old) × Holds (sound (read s.old)) × met (end_checks (read s.old) t b) }
-    ensures { Made s.old s.new (end (was s) t b) (end_climbs (was s) t b) result }
+    ensures { Made s.old s.new (end (was s.old) t b) (end_climbs (was s.old) t b) result }
 {
     holding::let_go_all(s, t);
     session::set(s, Field::TaskState, t as usize, names::ENDED);

@@ -20,7 +20,7 @@ use session::{Field, names};
 // Event e is fired if it is marked. Internal: callers have shown the lengths and the handle.
 fn fire_marked(s: &mut [u64], fires: &[u8], e: u64)
     requires { (words ≤ length s.old) × (e ≤ most_objects) × (length fires.now ≡ object_places) }
-    ensures { Becomes s (put (was s) EventState e (fire_row fires.now e (row (was s) e))) }
+    ensures { Becomes s.old s.new (put (was s.old) EventState e (fire_row fires.now e (row (was s.old) e))) }
 {
     if fires[e as usize] == 1 {
         session::set(s, Field::EventState, e as usize, names::FIRED);
@@ -31,7 +31,7 @@ fn fire_marked(s: &mut [u64], fires: &[u8], e: u64)
 fn fire_all_marked(s: &mut [u64], fires: &[u8])
     requires { (words ≤ length s.old) × (read s.old Objects 0 ≤ most_objects) × (length fires.now ≡ object_places)
         × Within fires.now (read s.old Objects 0) }
-    ensures { Becomes s (states_fired (was s) fires.now) }
+    ensures { Becomes s.old s.new (states_fired (was s.old) fires.now) }
 {
     let n = session::get(s, Field::Objects, 0);
     let mut e: u64 = 0;
@@ -45,7 +45,7 @@ fn fire_all_marked(s: &mut [u64], fires: &[u8])
 fn ready_marked(s: &mut [u64], fires: &[u8], l: u64)
     requires { (words ≤ length s.old) × (l < link_places) × (length fires.now ≡ object_places)
         × (read s.old LinkSource l ≤ most_objects) }
-    ensures { Becomes s (put (was s) LinkState l (ready_row fires.now l (row (was s) l))) }
+    ensures { Becomes s.old s.new (put (was s.old) LinkState l (ready_row fires.now l (row (was s.old) l))) }
 {
     let e = session::get(s, Field::LinkSource, l as usize) as usize;
     if fires[e] == 1 {
@@ -58,7 +58,7 @@ fn ready_marked(s: &mut [u64], fires: &[u8], l: u64)
 // Every open link of a marked event is ready. Internal: callers have shown the lengths and a tidy session.
 fn ready_all_marked(s: &mut [u64], fires: &[u8])
     requires { (words ≤ length s.old) × Tidy (read s.old) × (length fires.now ≡ object_places) }
-    ensures { Becomes s (links_ready (was s) fires.now) }
+    ensures { Becomes s.old s.new (links_ready (was s.old) fires.now) }
 {
     let n = session::get(s, Field::Links, 0);
     let mut l: u64 = 0;
@@ -72,7 +72,7 @@ fn ready_all_marked(s: &mut [u64], fires: &[u8])
 fn fire_by_marks(s: &mut [u64], fires: &[u8])
     requires { (words ≤ length s.old) × Tidy (read s.old) × (length fires.now ≡ object_places)
         × Within fires.now (read s.old Objects 0) }
-    ensures { Becomes s (links_ready (states_fired (was s) fires.now) fires.now) }
+    ensures { Becomes s.old s.new (links_ready (states_fired (was s.old) fires.now) fires.now) }
 {
     fire_all_marked(s, fires);
     ready_all_marked(s, fires);
@@ -83,7 +83,7 @@ fn fire_by_marks(s: &mut [u64], fires: &[u8])
 fn fire_above(s: &mut [u64], t: u64) -> u64
     requires { (words ≤ length s.old) × Tidy (read s.old) × (1 ≤ t) × (read s.old TaskState t ≤ running → ⊥)
         × OnlyAbove (read s.old) t }
-    ensures { Made s.old s.new (fire_finished (was s)) (climbed (was s) t) result }
+    ensures { Made s.old s.new (fire_finished (was s.old)) (climbed (was s.old) t) result }
 {
     let mut live: [u8; names::OBJECT_PLACES] = [0; names::OBJECT_PLACES];
     ancestors::mark_all(s, &mut live);
@@ -106,7 +106,7 @@ fn fire_above(s: &mut [u64], t: u64) -> u64
 fn fire_own(s: &mut [u64], t: u64)
     requires { (words ≤ length s.old) × Tidy (read s.old) × (t ≤ read s.old Objects 0)
         × (Holds (busy (read s.old) t) → ⊥) × OnlyOne (read s.old) (t + 1) }
-    ensures { Becomes s (fire_finished (was s)) }
+    ensures { Becomes s.old s.new (fire_finished (was s.old)) }
 {
     if task_waits(s, t) {
         effects::fire_one(s, t + 1, 0);
@@ -117,7 +117,7 @@ fn fire_own(s: &mut [u64], t: u64)
 pub fn fire_over(s: &mut [u64], t: u64) -> u64
     requires { (words ≤ length s.old) × Tidy (read s.old) × (1 ≤ t) × (read s.old TaskState t ≤ running → ⊥)
         × OnlyAbove (read s.old) t × (Holds (busy (read s.old) t) → ⊥) }
-    ensures { Made s.old s.new (fire_finished (was s)) (climbed (was s) t) result }
+    ensures { Made s.old s.new (fire_finished (was s.old)) (climbed (was s.old) t) result }
 {
     if done_creator(s, t) == 0 {
         let steps = first_step(s, t);
@@ -130,7 +130,7 @@ pub fn fire_over(s: &mut [u64], t: u64) -> u64
 // Whether task h made one, whose handle is then higher. Internal: callers have shown the length, a tidy session and the handle.
 fn has_child(s: &[u64], h: u64) -> bool
     requires { (words ≤ length s.now) × Tidy (read s.now) × (1 ≤ h) × (h ≤ read s.now Objects 0) }
-    ensures { result ≡ test (has_child (was s) h) }
+    ensures { result ≡ test (has_child (was s.now) h) }
 {
     let n = session::get(s, Field::Objects, 0) as usize;
     reading::find(s, Field::TaskCreator, h, h as usize + 1, n + 1) <= n
@@ -142,7 +142,7 @@ fn has_child(s: &[u64], h: u64) -> bool
 pub fn fire_finished(s: &mut [u64], t: u64) -> u64
     requires { (words ≤ length s.old) × Tidy (read s.old) × (1 ≤ t) × (read s.old TaskState t ≤ running → ⊥)
         × OnlyAbove (read s.old) t }
-    ensures { Made s.old s.new (fire_finished (was s)) (climbed (was s) t) result }
+    ensures { Made s.old s.new (fire_finished (was s.old)) (climbed (was s.old) t) result }
 {
     if has_child(s, t) {
         return fire_above(s, t);

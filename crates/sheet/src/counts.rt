@@ -11,7 +11,7 @@ use session::{Field, names};
 
 fn count_live(s: &[u64], last: u64) -> u64
     requires { (words ≤ length s.now) × (last ≤ most_objects) }
-    ensures answer { result ≡ count (last + 1) (is_live (was s)) }
+    ensures answer { result ≡ count (last + 1) (is_live (was s.now)) }
     ensures few { result ≤ object_places }
 {
     let mut found: u64 = 0;
@@ -27,7 +27,7 @@ fn count_live(s: &[u64], last: u64) -> u64
 
 fn count_undelivered(s: &[u64], last: u64) -> u64
     requires { (words ≤ length s.now) × (last ≤ most_links) }
-    ensures answer { result ≡ count (last + 1) (is_undelivered (was s)) }
+    ensures answer { result ≡ count (last + 1) (is_undelivered (was s.now)) }
     ensures few { result ≤ link_places }
 {
     let mut found: u64 = 0;
@@ -44,7 +44,7 @@ fn count_undelivered(s: &[u64], last: u64) -> u64
 // The live tasks. Memory that says that there are more objects than it has places for has none past those.
 pub fn live_tasks(s: &[u64]) -> u64
     requires { words ≤ length s.now }
-    ensures answer { result ≡ live_tasks (was s) }
+    ensures answer { result ≡ live_tasks (was s.now) }
     ensures few { result ≤ object_places }
 {
     let objects = session::get(s, Field::Objects, 0);
@@ -57,7 +57,7 @@ pub fn live_tasks(s: &[u64]) -> u64
 // The undelivered links, in the same way.
 pub fn undelivered_links(s: &[u64]) -> u64
     requires { words ≤ length s.now }
-    ensures answer { result ≡ undelivered_links (was s) }
+    ensures answer { result ≡ undelivered_links (was s.now) }
     ensures few { result ≤ link_places }
 {
     let links = session::get(s, Field::Links, 0);

@@ -12,7 +12,7 @@ use session::{Field, names};
 // Whether link l is delivered, leads to an event, or to a slot that is not satisfied.
 fn is_link_settled(s: &[u64], l: u64) -> bool
     requires { (words ≤ length s.now) × Leads (read s.now) l }
-    ensures { result ≡ test (link_settled (was s) l) }
+    ensures { result ≡ test (link_settled (was s.now) l) }
 {
     if session::get(s, Field::LinkState, l as usize) == names::DELIVERED {
         return true;
@@ -28,7 +28,7 @@ fn is_link_settled(s: &[u64], l: u64) -> bool
 // Looks at each link once, where the rule goes by slots.
 pub fn is_settled(s: &[u64]) -> bool
     requires { (words ≤ length s.now) × Holds (sound (read s.now)) }
-    ensures { result ≡ test (settled (was s)) }
+    ensures { result ≡ test (settled (was s.now)) }
 {
     let links = session::get(s, Field::Links, 0);
     let mut l: u64 = 0;

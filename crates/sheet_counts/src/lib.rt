@@ -68,8 +68,8 @@ fn is_start(code: u64) -> u64
 // Runs an operation on a sound session and counts its answer. Internal.
 fn count_operation(memory: &mut [u64], op: Operation) -> Told
     requires { (words ≤ length memory.old) × Holds (sound (read memory.old)) }
-    ensures session { Becomes memory (step (was memory) op).leaves }
-    ensures counts { result ≡ told (step (was memory) op).refused op.code }
+    ensures session { Becomes memory.old memory.new (step (was memory.old) op).leaves }
+    ensures counts { result ≡ told (step (was memory.old) op).refused op.code }
 {
     let start = is_start(op.code);
     match engine::apply_sound(memory, op) {
@@ -101,7 +101,7 @@ fn count_record(edition: u64, sheet: &[u8], at: usize, memory: &mut [u64]) -> We
 // The counts, with the session's own of dropped deliveries. Internal.
 fn with_dropped(memory: &[u64], records: u64, refused: u64, starts: u64) -> Tally
     requires { words ≤ length memory.now }
-    ensures { result ≡ tally_of records refused starts (was memory) }
+    ensures { result ≡ tally_of records refused starts (was memory.now) }
 {
     Tally {
         records,
@@ -114,8 +114,8 @@ fn with_dropped(memory: &[u64], records: u64, refused: u64, starts: u64) -> Tall
 // Runs the records from a place on, on a kept session, and counts. Internal.
 fn count_records(sheet: &[u8], first: usize, memory: &mut [u64]) -> Tally
     requires { (words ≤ length memory.old) × Holds (kept (read memory.old)) }
-    ensures counts { result ≡ counts_from sheet.now first (was memory) }
-    ensures session { Becomes memory (left_from sheet.now first (was memory)) }
+    ensures counts { result ≡ counts_from sheet.now first (was memory.old) }
+    ensures session { Becomes memory.old memory.new (left_from sheet.now first (was memory.old)) }
 {
     let edition = record::edition_of(sheet);
     let mut at = first;
@@ -142,7 +142,7 @@ fn count_records(sheet: &[u8], first: usize, memory: &mut [u64]) -> Tally
 pub fn count_fresh(sheet: &[u8], memory: &mut [u64]) -> Tally
     requires { (words ≤ length memory.old) × (read memory.old ≡ fresh_session) }
     ensures counts { result ≡ counts_of sheet.now }
-    ensures session { Becomes memory (print_sheet sheet.now fresh_session).session }
+    ensures session { Becomes memory.old memory.new (print_sheet sheet.now fresh_session).session }
 {
     match record::read_head(sheet) {
         Place::Refused(_) => with_dropped(memory, 1, 1, 0),
@@ -154,7 +154,7 @@ pub fn count_fresh(sheet: &[u8], memory: &mut [u64]) -> Tally
 pub fn count_sheet(sheet: &[u8], memory: &mut [u64]) -> Tally
     requires { (words ≤ length memory.old) × Holds (kept (read memory.old)) }
     ensures counts { result ≡ counts_of sheet.now }
-    ensures session { Becomes memory (print_sheet sheet.now fresh_session).session }
+    ensures session { Becomes memory.old memory.new (print_sheet sheet.now fresh_session).session }
 {
     session::renew(memory);
     count_fresh(sheet, memory)

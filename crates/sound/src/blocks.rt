@@ -16,7 +16,7 @@ use session::{Field, names};
 // Marks the block that slot i holds.
 fn mark_held(s: &[u64], row: &mut [u64; names::OBJECT_PLACES], i: u64)
     requires { (words ≤ length s.now) × Row row.old object_places (held_flag (read s.now) i) }
-    ensures { Row row.new object_places (held_flag (was s) (i + 1)) }
+    ensures { Row row.new object_places (held_flag (was s.now) (i + 1)) }
 {
     let payload = of_slot(s, Field::SlotPayload, i);
     if of_slot(s, Field::SlotMark, i) == names::HELD {
@@ -29,7 +29,7 @@ fn mark_held(s: &[u64], row: &mut [u64; names::OBJECT_PLACES], i: u64)
 
 fn mark_all_held(s: &[u64], row: &mut [u64; names::OBJECT_PLACES], n: u64)
     requires { (words ≤ length s.now) × (n ≤ most_objects) × Row row.old object_places (λ b. 0) }
-    ensures { Row row.new object_places (held_flag (was s) (16 * (n + 1))) }
+    ensures { Row row.new object_places (held_flag (was s.now) (16 * (n + 1))) }
 {
     let end = 16 * (n + 1);
     let mut i: u64 = 0;
@@ -42,7 +42,7 @@ fn mark_all_held(s: &[u64], row: &mut [u64; names::OBJECT_PLACES], n: u64)
 // For each block 1 if a slot holds it, else 0.
 pub fn held_marks(s: &[u64], n: u64) -> [u64; names::OBJECT_PLACES]
     requires { (words ≤ length s.now) × (n ≤ most_objects) }
-    ensures { Row result object_places (held_flag (was s) (16 * (n + 1))) }
+    ensures { Row result object_places (held_flag (was s.now) (16 * (n + 1))) }
 {
     let mut row: [u64; names::OBJECT_PLACES] = [0; names::OBJECT_PLACES];
     mark_all_held(s, &mut row, n);
@@ -53,7 +53,7 @@ pub fn held_marks(s: &[u64], n: u64) -> [u64; names::OBJECT_PLACES]
 fn is_held_by(s: &[u64], row: &[u64; names::OBJECT_PLACES], b: u64) -> bool
     requires { (words ≤ length s.now) × (b ≤ most_objects)
         × Row row.now object_places (held_flag (read s.now) (16 * (read s.now Objects 0 + 1))) }
-    ensures { result ≡ test (is_held (was s) b) }
+    ensures { result ≡ test (is_held (was s.now) b) }
 {
     let made = of_object(s, Field::BlockHeld, b) == 1;
     let i = b as usize;
@@ -63,7 +63,7 @@ fn is_held_by(s: &[u64], row: &[u64; names::OBJECT_PLACES], b: u64) -> bool
 fn is_block(s: &[u64], row: &[u64; names::OBJECT_PLACES], b: u64) -> bool
     requires { (words ≤ length s.now) × (b ≤ most_objects)
         × Row row.now object_places (held_flag (read s.now) (16 * (read s.now Objects 0 + 1))) }
-    ensures { result ≡ test (block_at (was s) b) }
+    ensures { result ≡ test (block_at (was s.now) b) }
 {
     let creator = of_object(s, Field::BlockCreator, b);
     let runs = (1 <= creator) & (of_object(s, Field::TaskState, creator) == names::RUNNING);
@@ -78,7 +78,7 @@ fn is_block(s: &[u64], row: &[u64; names::OBJECT_PLACES], b: u64) -> bool
 pub fn are_blocks(s: &[u64], row: &[u64; names::OBJECT_PLACES], n: u64) -> bool
     requires { (words ≤ length s.now) × (n ≤ most_objects)
         × Row row.now object_places (held_flag (read s.now) (16 * (read s.now Objects 0 + 1))) }
-    ensures { result ≡ test (each (n + 1) (block_at (was s))) }
+    ensures { result ≡ test (each (n + 1) (block_at (was s.now))) }
 {
     let mut ok = true;
     let mut b: u64 = 0;

@@ -18,7 +18,7 @@ use session::{Field, names};
 // Whether there is a counted event: if there is none, no link need be looked at.
 fn is_any_counted(s: &[u64], n: u64) -> bool
     requires { (words ≤ length s.now) × (n ≤ most_objects) }
-    ensures { result ≡ test (some (n + 1) (is_counted (was s))) }
+    ensures { result ≡ test (some (n + 1) (is_counted (was s.now))) }
 {
     let mut found = false;
     let mut e: u64 = 0;
@@ -38,8 +38,8 @@ fn note_source(
 )
     requires { (words ≤ length s.now) × (l ≤ most_links) × Row made.old object_places (is_made_by (read s.now) l)
         × Row served.old object_places (served_by (read s.now) l) }
-    ensures made { Row made.new object_places (is_made_by (was s) (l + 1)) }
-    ensures served { Row served.new object_places (served_by (was s) (l + 1)) }
+    ensures made { Row made.new object_places (is_made_by (was s.now) (l + 1)) }
+    ensures served { Row served.new object_places (served_by (was s.now) (l + 1)) }
 {
     let source = of_link(s, Field::LinkSource, l);
     let state = of_link(s, Field::LinkState, l);
@@ -61,8 +61,8 @@ fn note_sources(
 )
     requires { (words ≤ length s.now) × (m ≤ most_links) × Row made.old object_places (λ e. 0)
         × Row served.old object_places (λ e. 0) }
-    ensures made { Row made.new object_places (is_made_by (was s) (m + 1)) }
-    ensures served { Row served.new object_places (served_by (was s) (m + 1)) }
+    ensures made { Row made.new object_places (is_made_by (was s.now) (m + 1)) }
+    ensures served { Row served.new object_places (served_by (was s.now) (m + 1)) }
 {
     let mut l: u64 = 0;
     while l <= m {
@@ -80,7 +80,7 @@ fn is_counted(
 ) -> bool
     requires { (words ≤ length s.now) × (e ≤ most_objects) × Row made.now object_places (is_made_by (read s.now) (read s.now Links 0 + 1))
         × Row served.now object_places (served_by (read s.now) (read s.now Links 0 + 1)) }
-    ensures { result ≡ test (counted_at (was s) e) }
+    ensures { result ≡ test (counted_at (was s.now) e) }
 {
     let i = e as usize;
     let count = of_object(s, Field::EventCount, e);
@@ -97,7 +97,7 @@ fn are_counted_by(
 ) -> bool
     requires { (words ≤ length s.now) × (n ≤ most_objects) × Row made.now object_places (is_made_by (read s.now) (read s.now Links 0 + 1))
         × Row served.now object_places (served_by (read s.now) (read s.now Links 0 + 1)) }
-    ensures { result ≡ test (each (n + 1) (counted_at (was s))) }
+    ensures { result ≡ test (each (n + 1) (counted_at (was s.now))) }
 {
     let mut ok = true;
     let mut e: u64 = 0;
@@ -110,7 +110,7 @@ fn are_counted_by(
 
 pub fn are_counted(s: &[u64], n: u64, m: u64) -> bool
     requires { (words ≤ length s.now) × (n ≤ most_objects) × (m ≤ most_links) × (m ≡ read s.now Links 0) }
-    ensures { result ≡ test (each (n + 1) (counted_at (was s))) }
+    ensures { result ≡ test (each (n + 1) (counted_at (was s.now))) }
 {
     if !is_any_counted(s, n) {
         return true;

@@ -20,7 +20,7 @@ const CELLS: usize = names::OBJECT_PLACES * 4;
 // The hold of slot i conflicts with the hold of the task that made its block.
 fn clashes_with_maker(s: &[u64], i: u64) -> bool
     requires { words ≤ length s.now }
-    ensures { result ≡ test (clash_made (was s) i) }
+    ensures { result ≡ test (clash_made (was s.now) i) }
 {
     let block = of_slot(s, Field::SlotPayload, i);
     let mode = of_slot(s, Field::SlotMode, i);
@@ -54,7 +54,7 @@ fn is_other(row: &[u64; CELLS], b: u64, c: u64, t: u64) -> bool
 // Whether the hold of slot i conflicts with that of an earlier slot.
 fn does_clash(s: &[u64], row: &[u64; CELLS], i: u64) -> bool
     requires { (words ≤ length s.now) × (i < slot_places) × IsHeld (read s.now) i × Holders (read s.now) row.now i }
-    ensures { result ≡ test (clashes (was s) i) }
+    ensures { result ≡ test (clashes (was s.now) i) }
 {
     let b = of_slot(s, Field::SlotPayload, i);
     let mode = of_slot(s, Field::SlotMode, i);
@@ -68,7 +68,7 @@ fn does_clash(s: &[u64], row: &[u64; CELLS], i: u64) -> bool
 fn is_compatible(s: &[u64], row: &[u64; CELLS], i: u64) -> bool
     requires { (words ≤ length s.now) × (i < slot_places) × (read s.now SlotMark i ≡ held → IsHeld (read s.now) i)
         × Holders (read s.now) row.now i }
-    ensures { result ≡ test (compatible_at (was s) i) }
+    ensures { result ≡ test (compatible_at (was s.now) i) }
 {
     if of_slot(s, Field::SlotMark, i) != names::HELD {
         return true;
@@ -80,7 +80,7 @@ fn is_compatible(s: &[u64], row: &[u64; CELLS], i: u64) -> bool
 fn note_held(s: &[u64], row: &mut [u64; CELLS], i: u64)
     requires { (words ≤ length s.now) × (i < slot_places) × (read s.now SlotMark i ≡ held) × IsHeld (read s.now) i
         × Holders (read s.now) row.old i }
-    ensures { Holders (was s) row.new (i + 1) }
+    ensures { Holders (was s.now) row.new (i + 1) }
 {
     let b = of_slot(s, Field::SlotPayload, i);
     let mode = of_slot(s, Field::SlotMode, i);
@@ -91,7 +91,7 @@ fn note_held(s: &[u64], row: &mut [u64; CELLS], i: u64)
 fn note_holder(s: &[u64], row: &mut [u64; CELLS], i: u64)
     requires { (words ≤ length s.now) × (i < slot_places) × (read s.now SlotMark i ≡ held → IsHeld (read s.now) i)
         × Holders (read s.now) row.old i }
-    ensures { Holders (was s) row.new (i + 1) }
+    ensures { Holders (was s.now) row.new (i + 1) }
 {
     if of_slot(s, Field::SlotMark, i) == names::HELD {
         note_held(s, row, i);
@@ -102,7 +102,7 @@ fn are_compatible_by(s: &[u64], row: &mut [u64; CELLS], n: u64) -> bool
     requires { (words ≤ length s.now) × (n ≤ most_objects)
         × ((i : ℕ) → i < 16 * (n + 1) → read s.now SlotMark i ≡ held → IsHeld (read s.now) i)
         × Row row.old cells (λ p. 0) }
-    ensures { result ≡ test (each (16 * (n + 1)) (compatible_at (was s))) }
+    ensures { result ≡ test (each (16 * (n + 1)) (compatible_at (was s.now))) }
 {
     let end = 16 * (n + 1);
     let mut ok = true;
@@ -119,7 +119,7 @@ fn are_compatible_by(s: &[u64], row: &mut [u64; CELLS], n: u64) -> bool
 pub fn are_compatible(s: &[u64], n: u64) -> bool
     requires { (words ≤ length s.now) × (n ≤ most_objects)
         × ((i : ℕ) → i < 16 * (n + 1) → read s.now SlotMark i ≡ held → IsHeld (read s.now) i) }
-    ensures { result ≡ test (each (16 * (n + 1)) (compatible_at (was s))) }
+    ensures { result ≡ test (each (16 * (n + 1)) (compatible_at (was s.now))) }
 {
     let mut row: [u64; CELLS] = [0; CELLS];
     are_compatible_by(s, &mut row, n)

@@ -26,7 +26,7 @@ mod unused;
 // The rules about objects by themselves, and that unused parts are zero. Internal: callers have shown the counts.
 fn are_parts(s: &[u64], n: u64) -> bool
     requires { (words ≤ length s.now) × (n ≤ most_objects) × (n ≡ read s.now Objects 0) }
-    ensures { result ≡ test (parts (was s)) }
+    ensures { result ≡ test (parts (was s.now)) }
 {
     let null = reading::of_object(s, Field::Kind, 0) == 0;
     let rest = tasks::are_creators(s, n) & unused::is_rest_unused(s);
@@ -36,7 +36,7 @@ fn are_parts(s: &[u64], n: u64) -> bool
 // Each slot of a task has at most one link, and is as its link wants. Internal, as `are_uses` is.
 fn are_linked_up(s: &[u64], n: u64, m: u64) -> bool
     requires { (words ≤ length s.now) × Counted (read s.now) n m × Linked (read s.now) }
-    ensures { result ≡ test (linked_up (was s)) }
+    ensures { result ≡ test (linked_up (was s.now)) }
 {
     let mut row: [u16; names::SLOT_PLACES] = [0; names::SLOT_PLACES];
     slots::note_links(s, &mut row, m);
@@ -49,7 +49,7 @@ fn are_linked_up(s: &[u64], n: u64, m: u64) -> bool
 // The rules about what uses the slots. Internal: callers have shown the counts and the rules before.
 fn are_uses(s: &[u64], n: u64, m: u64) -> bool
     requires { (words ≤ length s.now) × Counted (read s.now) n m × Known (parts (read s.now)) × Known (slots (read s.now)) }
-    ensures { result ≡ test (uses (was s)) }
+    ensures { result ≡ test (uses (was s.now)) }
 {
     let row = blocks::held_marks(s, n);
     let delivered = links::count_delivered(s, m);
@@ -61,7 +61,7 @@ fn are_uses(s: &[u64], n: u64, m: u64) -> bool
 
 fn are_slots_and_uses(s: &[u64], n: u64, m: u64) -> bool
     requires { (words ≤ length s.now) × Counted (read s.now) n m × Known (parts (read s.now)) × Known (links (read s.now)) }
-    ensures { result ≡ test (from_slots (was s)) }
+    ensures { result ≡ test (from_slots (was s.now)) }
 {
     if are_linked_up(s, n, m) {
         return are_uses(s, n, m);
@@ -71,7 +71,7 @@ fn are_slots_and_uses(s: &[u64], n: u64, m: u64) -> bool
 
 fn are_links_and_rest(s: &[u64], n: u64, m: u64) -> bool
     requires { (words ≤ length s.now) × Counted (read s.now) n m × Known (parts (read s.now)) }
-    ensures { result ≡ test (from_links (was s)) }
+    ensures { result ≡ test (from_links (was s.now)) }
 {
     if links::are_links(s, m) {
         return are_slots_and_uses(s, n, m);
@@ -81,7 +81,7 @@ fn are_links_and_rest(s: &[u64], n: u64, m: u64) -> bool
 
 fn are_outputs_and_rest(s: &[u64], n: u64, m: u64) -> bool
     requires { (words ≤ length s.now) × Counted (read s.now) n m × Known (parts (read s.now)) }
-    ensures { result ≡ test (from_outputs (was s)) }
+    ensures { result ≡ test (from_outputs (was s.now)) }
 {
     let marks = ancestors::busy_marks(s);
     if tasks::are_outputs(s, &marks, n) {
@@ -92,7 +92,7 @@ fn are_outputs_and_rest(s: &[u64], n: u64, m: u64) -> bool
 
 fn are_parts_and_rest(s: &[u64], n: u64, m: u64) -> bool
     requires { (words ≤ length s.now) × Counted (read s.now) n m }
-    ensures { result ≡ test (from_parts (was s)) }
+    ensures { result ≡ test (from_parts (was s.now)) }
 {
     if are_parts(s, n) {
         return are_outputs_and_rest(s, n, m);
@@ -103,7 +103,7 @@ fn are_parts_and_rest(s: &[u64], n: u64, m: u64) -> bool
 // Whether memory that is long enough holds a sound session. Internal: callers have shown the length.
 fn is_sound_session(s: &[u64]) -> bool
     requires { words ≤ length s.now }
-    ensures { result ≡ test (sound (was s)) }
+    ensures { result ≡ test (sound (was s.now)) }
 {
     if objects::are_counts(s) {
         let n = session::get(s, Field::Objects, 0);

@@ -12,7 +12,7 @@ use session::{Field, names};
 // A link's state is in range and agrees with its source's.
 fn does_link_agree(s: &[u64], l: u64) -> bool
     requires { words ≤ length s.now }
-    ensures { result ≡ test (link_agrees (was s) l) }
+    ensures { result ≡ test (link_agrees (was s.now) l) }
 {
     let source = of_link(s, Field::LinkSource, l);
     let state = of_link(s, Field::LinkState, l);
@@ -30,7 +30,7 @@ fn does_link_agree(s: &[u64], l: u64) -> bool
 // A link leads from an event to a slot that there is, and its state agrees with the event's.
 fn is_link(s: &[u64], l: u64) -> bool
     requires { words ≤ length s.now }
-    ensures { result ≡ test (is_link (was s) l) }
+    ensures { result ≡ test (is_link (was s.now) l) }
 {
     let source = of_link(s, Field::LinkSource, l);
     let target = of_link(s, Field::LinkTarget, l);
@@ -42,14 +42,14 @@ fn is_link(s: &[u64], l: u64) -> bool
 
 fn is_link_or_null(s: &[u64], l: u64) -> bool
     requires { words ≤ length s.now }
-    ensures { result ≡ test (link_at (was s) l) }
+    ensures { result ≡ test (link_at (was s.now) l) }
 {
     (l == 0) | is_link(s, l)
 }
 
 pub fn are_links(s: &[u64], n: u64) -> bool
     requires { (words ≤ length s.now) × (n ≤ most_links) }
-    ensures { result ≡ test (each (n + 1) (link_at (was s))) }
+    ensures { result ≡ test (each (n + 1) (link_at (was s.now))) }
 {
     let mut ok = true;
     let mut l: u64 = 0;
@@ -62,7 +62,7 @@ pub fn are_links(s: &[u64], n: u64) -> bool
 
 fn is_delivered(s: &[u64], l: u64) -> bool
     requires { words ≤ length s.now }
-    ensures { result ≡ test (is_delivered (was s) l) }
+    ensures { result ≡ test (is_delivered (was s.now) l) }
 {
     of_link(s, Field::LinkState, l) == names::DELIVERED
 }
@@ -70,7 +70,7 @@ fn is_delivered(s: &[u64], l: u64) -> bool
 // How many links are delivered.
 pub fn count_delivered(s: &[u64], n: u64) -> u64
     requires { (words ≤ length s.now) × (n ≤ most_links) }
-    ensures { result ≡ count (n + 1) (is_delivered (was s)) }
+    ensures { result ≡ count (n + 1) (is_delivered (was s.now)) }
 {
     let mut count: u64 = 0;
     let mut l: u64 = 0;

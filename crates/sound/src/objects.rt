@@ -13,7 +13,7 @@ use session::{Field, names};
 
 pub fn are_counts(s: &[u64]) -> bool
     requires { words ≤ length s.now }
-    ensures { result ≡ test (counts (was s)) }
+    ensures { result ≡ test (counts (was s.now)) }
 {
     let objects = session::get(s, Field::Objects, 0);
     let links = session::get(s, Field::Links, 0);
@@ -22,7 +22,7 @@ pub fn are_counts(s: &[u64]) -> bool
 
 pub fn template_part(s: &[u64], h: u64) -> bool
     requires { words ≤ length s.now }
-    ensures { result ≡ test (template_part (was s) h) }
+    ensures { result ≡ test (template_part (was s.now) h) }
 {
     let state = of_object(s, Field::TemplateState, h);
     let count = of_object(s, Field::TemplateCount, h);
@@ -33,7 +33,7 @@ pub fn template_part(s: &[u64], h: u64) -> bool
 
 pub fn task_part(s: &[u64], h: u64) -> bool
     requires { words ≤ length s.now }
-    ensures { result ≡ test (task_part (was s) h) }
+    ensures { result ≡ test (task_part (was s.now) h) }
 {
     let state = of_object(s, Field::TaskState, h);
     let creator = of_object(s, Field::TaskCreator, h);
@@ -48,7 +48,7 @@ pub fn task_part(s: &[u64], h: u64) -> bool
 
 pub fn event_part(s: &[u64], h: u64) -> bool
     requires { words ≤ length s.now }
-    ensures { result ≡ test (event_part (was s) h) }
+    ensures { result ≡ test (event_part (was s.now) h) }
 {
     let state = of_object(s, Field::EventState, h);
     let kind = of_object(s, Field::EventType, h);
@@ -67,7 +67,7 @@ pub fn event_part(s: &[u64], h: u64) -> bool
 
 pub fn block_part(s: &[u64], h: u64) -> bool
     requires { words ≤ length s.now }
-    ensures { result ≡ test (block_part (was s) h) }
+    ensures { result ≡ test (block_part (was s.now) h) }
 {
     let state = of_object(s, Field::BlockState, h);
     let creator = of_object(s, Field::BlockCreator, h);
@@ -81,7 +81,7 @@ pub fn block_part(s: &[u64], h: u64) -> bool
 
 fn is_object(s: &[u64], h: u64) -> bool
     requires { words ≤ length s.now }
-    ensures { result ≡ test (object (was s) h) }
+    ensures { result ≡ test (object (was s.now) h) }
 {
     let kind = of_object(s, Field::Kind, h);
     let of_kind = !(1 <= h) | (1 <= kind) & (kind <= 4);
@@ -91,7 +91,7 @@ fn is_object(s: &[u64], h: u64) -> bool
 // Every object is of some kind, with that kind's fields in range and the others zero.
 pub fn are_objects(s: &[u64], n: u64) -> bool
     requires { (words ≤ length s.now) × (n ≤ most_objects) }
-    ensures { result ≡ test (each (n + 1) (object (was s))) }
+    ensures { result ≡ test (each (n + 1) (object (was s.now))) }
 {
     let mut ok = true;
     let mut h: u64 = 0;
@@ -104,7 +104,7 @@ pub fn are_objects(s: &[u64], n: u64) -> bool
 
 pub fn are_roots(s: &[u64]) -> bool
     requires { words ≤ length s.now }
-    ensures { result ≡ test (roots (was s)) }
+    ensures { result ≡ test (roots (was s.now)) }
 {
     let slot = (of_slot(s, Field::SlotMode, 32) == names::RW)
         & ((1 <= of_slot(s, Field::SlotMark, 32)) & (of_slot(s, Field::SlotPayload, 32) == 1));
@@ -119,7 +119,7 @@ pub fn are_roots(s: &[u64]) -> bool
 
 fn is_latch(s: &[u64], e: u64) -> bool
     requires { words ≤ length s.now }
-    ensures { result ≡ test (latch_at (was s) e) }
+    ensures { result ≡ test (latch_at (was s.now) e) }
 {
     let state = of_object(s, Field::EventState, e);
     let fired = (state == names::FIRED) | (state == names::DESTROYED_FIRED);
@@ -131,7 +131,7 @@ fn is_latch(s: &[u64], e: u64) -> bool
 // A fired latch has the count 0.
 pub fn are_latches(s: &[u64], n: u64) -> bool
     requires { (words ≤ length s.now) × (n ≤ most_objects) }
-    ensures { result ≡ test (each (n + 1) (latch_at (was s))) }
+    ensures { result ≡ test (each (n + 1) (latch_at (was s.now))) }
 {
     let mut ok = true;
     let mut e: u64 = 0;

@@ -11,7 +11,7 @@ use session::{Field, names};
 // Whether a number is 0 or a block.
 pub fn is_payload(s: &[u64], p: u64) -> bool
     requires { words ≤ length s.now }
-    ensures { result ≡ test (is_payload (was s) p) }
+    ensures { result ≡ test (is_payload (was s.now) p) }
 {
     (p == 0) | is_made(s, p) & (of_object(s, Field::Kind, p) == names::BLOCK)
 }

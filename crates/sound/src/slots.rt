@@ -26,7 +26,7 @@ pub fn wide(l: u16) -> u64
 fn note_link(s: &[u64], row: &mut [u16; names::SLOT_PLACES], l: u64)
     requires { (words ≤ length s.now) × (1 ≤ l) × (read s.now LinkTarget l ≤ most_objects) × (read s.now LinkSlot l < 16)
         × Row row.old slot_places (last_link (read s.now) l) × (l ≤ most_links) }
-    ensures { Row row.new slot_places (last_link (was s) (l + 1)) }
+    ensures { Row row.new slot_places (last_link (was s.now) (l + 1)) }
 {
     let target = of_link(s, Field::LinkTarget, l);
     let slot = of_link(s, Field::LinkSlot, l);
@@ -40,7 +40,7 @@ fn note_link(s: &[u64], row: &mut [u16; names::SLOT_PLACES], l: u64)
 pub fn note_links(s: &[u64], row: &mut [u16; names::SLOT_PLACES], n: u64)
     requires { (words ≤ length s.now) × (n ≤ most_links) × (n ≡ read s.now Links 0) × Low (read s.now)
         × Row row.old slot_places (λ p. 0) }
-    ensures { Row row.new slot_places (last_link (was s) (n + 1)) }
+    ensures { Row row.new slot_places (last_link (was s.now) (n + 1)) }
 {
     let mut l: u64 = 1;
     while l <= n {
@@ -53,7 +53,7 @@ pub fn note_links(s: &[u64], row: &mut [u16; names::SLOT_PLACES], n: u64)
 fn is_single(s: &[u64], row: &[u16; names::SLOT_PLACES], l: u64) -> bool
     requires { (words ≤ length s.now) × (1 ≤ l) × (read s.now LinkTarget l ≤ most_objects) × (read s.now LinkSlot l < 16)
         × Row row.now slot_places (last_link (read s.now) (read s.now Links 0 + 1)) }
-    ensures { result ≡ test (single (was s) l) }
+    ensures { result ≡ test (single (was s.now) l) }
 {
     let target = of_link(s, Field::LinkTarget, l);
     let slot = of_link(s, Field::LinkSlot, l);
@@ -68,7 +68,7 @@ fn is_single(s: &[u64], row: &[u16; names::SLOT_PLACES], l: u64) -> bool
 pub fn are_single(s: &[u64], row: &[u16; names::SLOT_PLACES], n: u64) -> bool
     requires { (words ≤ length s.now) × (n ≤ most_links) × (n ≡ read s.now Links 0) × Low (read s.now)
         × Row row.now slot_places (last_link (read s.now) (read s.now Links 0 + 1)) }
-    ensures { result ≡ test (each (n + 1) (single (was s))) }
+    ensures { result ≡ test (each (n + 1) (single (was s.now))) }
 {
     let mut ok = true;
     let mut l: u64 = 1;
@@ -82,7 +82,7 @@ pub fn are_single(s: &[u64], row: &[u16; names::SLOT_PLACES], n: u64) -> bool
 // Slot j of task t, to which link m leads, is unsatisfied exactly if that link is not delivered.
 fn is_linked_by(s: &[u64], m: u64, t: u64, j: u64) -> bool
     requires { (words ≤ length s.now) × (t ≤ most_objects) × (j < 16) }
-    ensures { result ≡ test (linked_by (was s) m t j) }
+    ensures { result ≡ test (linked_by (was s.now) m t j) }
 {
     let empty = of_slot(s, Field::SlotMark, t * 16 + j) == 0;
     let waits = (1 <= m) & !(of_link(s, Field::LinkState, m) == names::DELIVERED);
@@ -93,7 +93,7 @@ fn is_linked_by(s: &[u64], m: u64, t: u64, j: u64) -> bool
 // A satisfied slot with a delivered link has that source's payload.
 fn is_paid_by(s: &[u64], m: u64, t: u64, j: u64) -> bool
     requires { (words ≤ length s.now) × (t ≤ most_objects) × (j < 16) }
-    ensures { result ≡ test (paid_by (was s) m t j) }
+    ensures { result ≡ test (paid_by (was s.now) m t j) }
 {
     let payload = of_slot(s, Field::SlotPayload, t * 16 + j);
     let source = of_link(s, Field::LinkSource, m);
@@ -104,7 +104,7 @@ fn is_paid_by(s: &[u64], m: u64, t: u64, j: u64) -> bool
 
 fn is_claimed_by(s: &[u64], m: u64, t: u64, j: u64) -> bool
     requires { (words ≤ length s.now) × (t ≤ most_objects) × (j < 16) }
-    ensures { result ≡ test (claimed_by (was s) m t j) }
+    ensures { result ≡ test (claimed_by (was s.now) m t j) }
 {
     let mode = of_slot(s, Field::SlotMode, t * 16 + j);
     let mark = of_slot(s, Field::SlotMark, t * 16 + j);
@@ -116,7 +116,7 @@ fn is_claimed_by(s: &[u64], m: u64, t: u64, j: u64) -> bool
 
 fn is_unclaimed_by(s: &[u64], m: u64, t: u64, j: u64) -> bool
     requires { (words ≤ length s.now) × (t ≤ most_objects) × (j < 16) }
-    ensures { result ≡ test (unclaimed_by (was s) m t j) }
+    ensures { result ≡ test (unclaimed_by (was s.now) m t j) }
 {
     let mode = of_slot(s, Field::SlotMode, t * 16 + j);
     let mark = of_slot(s, Field::SlotMark, t * 16 + j);
@@ -127,7 +127,7 @@ fn is_unclaimed_by(s: &[u64], m: u64, t: u64, j: u64) -> bool
 // Slot j of object h, to which link m leads, is as it should be.
 fn is_slot_by(s: &[u64], m: u64, h: u64, j: u64) -> bool
     requires { (words ≤ length s.now) × (h ≤ most_objects) × (j < 16) }
-    ensures { result ≡ test (slot_by (was s) m h j) }
+    ensures { result ≡ test (slot_by (was s.now) m h j) }
 {
     let is_task = of_object(s, Field::Kind, h) == names::TASK;
     let n = of_object(s, Field::TaskSlots, h);
@@ -140,7 +140,7 @@ fn is_slot_by(s: &[u64], m: u64, h: u64, j: u64) -> bool
 fn is_slot(s: &[u64], row: &[u16; names::SLOT_PLACES], h: u64, j: u64) -> bool
     requires { (words ≤ length s.now) × (h ≤ most_objects) × (j < 16)
         × Row row.now slot_places (last_link (read s.now) (read s.now Links 0 + 1)) }
-    ensures { result ≡ test (slot_at (was s) h j) }
+    ensures { result ≡ test (slot_at (was s.now) h j) }
 {
     let i = (h * 16 + j) as usize;
     is_slot_by(s, wide(row[i]), h, j)
@@ -149,7 +149,7 @@ fn is_slot(s: &[u64], row: &[u16; names::SLOT_PLACES], h: u64, j: u64) -> bool
 fn are_slots_of(s: &[u64], row: &[u16; names::SLOT_PLACES], h: u64) -> bool
     requires { (words ≤ length s.now) × (h ≤ most_objects)
         × Row row.now slot_places (last_link (read s.now) (read s.now Links 0 + 1)) }
-    ensures { result ≡ test (slots_at (was s) h) }
+    ensures { result ≡ test (slots_at (was s.now) h) }
 {
     let mut ok = true;
     let mut j: u64 = 0;
@@ -164,7 +164,7 @@ fn are_slots_of(s: &[u64], row: &[u16; names::SLOT_PLACES], h: u64) -> bool
 pub fn are_slots(s: &[u64], row: &[u16; names::SLOT_PLACES], n: u64) -> bool
     requires { (words ≤ length s.now) × (n ≤ most_objects)
         × Row row.now slot_places (last_link (read s.now) (read s.now Links 0 + 1)) }
-    ensures { result ≡ test (each (n + 1) (slots_at (was s))) }
+    ensures { result ≡ test (each (n + 1) (slots_at (was s.now))) }
 {
     let mut ok = true;
     let mut h: u64 = 0;

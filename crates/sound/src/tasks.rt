@@ -15,7 +15,7 @@ use session::{Field, names};
 
 fn is_creator(s: &[u64], t: u64) -> bool
     requires { words ≤ length s.now }
-    ensures { result ≡ test (creator (was s) t) }
+    ensures { result ≡ test (creator (was s.now) t) }
 {
     let creator = of_object(s, Field::TaskCreator, t);
     let state = of_object(s, Field::TaskState, creator);
@@ -26,7 +26,7 @@ fn is_creator(s: &[u64], t: u64) -> bool
 
 fn has_creator(s: &[u64], h: u64) -> bool
     requires { words ≤ length s.now }
-    ensures { result ≡ test (creator_at (was s) h) }
+    ensures { result ≡ test (creator_at (was s.now) h) }
 {
     !(of_object(s, Field::Kind, h) == names::TASK) | is_creator(s, h)
 }
@@ -34,7 +34,7 @@ fn has_creator(s: &[u64], h: u64) -> bool
 // Every task but main has a creator, a lower task that is running or ended.
 pub fn are_creators(s: &[u64], n: u64) -> bool
     requires { (words ≤ length s.now) × (n ≤ most_objects) }
-    ensures { result ≡ test (each (n + 1) (creator_at (was s))) }
+    ensures { result ≡ test (each (n + 1) (creator_at (was s.now))) }
 {
     let mut ok = true;
     let mut h: u64 = 0;
@@ -48,7 +48,7 @@ pub fn are_creators(s: &[u64], n: u64) -> bool
 // A slot is held only by a granted or running task, and by a granted one if it has a block.
 fn is_holding(s: &[u64], t: u64, j: u64) -> bool
     requires { (words ≤ length s.now) × (t ≤ most_objects) × (j < 16) }
-    ensures { result ≡ test (held_slot (was s) t j) }
+    ensures { result ≡ test (held_slot (was s.now) t j) }
 {
     let state = session::get(s, Field::TaskState, t as usize);
     let mark = session::get(s, Field::SlotMark, (t * 16 + j) as usize);
@@ -61,7 +61,7 @@ fn is_holding(s: &[u64], t: u64, j: u64) -> bool
 
 fn are_holding(s: &[u64], t: u64, n: u64) -> bool
     requires { (words ≤ length s.now) × (t ≤ most_objects) × (n ≤ 16) }
-    ensures { result ≡ test (each n (held_slot (was s) t)) }
+    ensures { result ≡ test (each n (held_slot (was s.now) t)) }
 {
     let mut ok = true;
     let mut j: u64 = 0;
@@ -75,7 +75,7 @@ fn are_holding(s: &[u64], t: u64, n: u64) -> bool
 // A task's state agrees with its slots.
 fn is_state(s: &[u64], t: u64) -> bool
     requires { (words ≤ length s.now) × (t ≤ most_objects) × (read s.now TaskSlots t ≤ 16) }
-    ensures { result ≡ test (state_at (was s) t) }
+    ensures { result ≡ test (state_at (was s.now) t) }
 {
     let n = session::get(s, Field::TaskSlots, t as usize);
     let state = session::get(s, Field::TaskState, t as usize);
@@ -87,7 +87,7 @@ fn is_state(s: &[u64], t: u64) -> bool
 
 pub fn are_states(s: &[u64], n: u64) -> bool
     requires { (words ≤ length s.now) × (n ≤ most_objects) × ((h : ℕ) → h < n + 1 → read s.now TaskSlots h ≤ 16) }
-    ensures { result ≡ test (each (n + 1) (state_at (was s))) }
+    ensures { result ≡ test (each (n + 1) (state_at (was s.now))) }
 {
     let mut ok = true;
     let mut t: u64 = 0;
@@ -101,7 +101,7 @@ pub fn are_states(s: &[u64], n: u64) -> bool
 // Whether some descendant of a task is live, by the marks.
 fn is_busy(s: &[u64], marks: &[u8; names::OBJECT_PLACES], t: u64) -> bool
     requires { (words ≤ length s.now) × (t ≤ most_objects) × Shows marks.now (busy (read s.now)) }
-    ensures { result ≡ test (busy (was s) t) }
+    ensures { result ≡ test (busy (was s.now) t) }
 {
     marks[t as usize] == 1
 }
@@ -109,7 +109,7 @@ fn is_busy(s: &[u64], marks: &[u8; names::OBJECT_PLACES], t: u64) -> bool
 // The output event of task t is fired and destroyed as the task's state and its descendants want.
 fn does_output_agree(s: &[u64], marks: &[u8; names::OBJECT_PLACES], t: u64) -> bool
     requires { (words ≤ length s.now) × (t ≤ most_objects) × Shows marks.now (busy (read s.now)) }
-    ensures { result ≡ test (output_state (was s) t) }
+    ensures { result ≡ test (output_state (was s.now) t) }
 {
     let state = of_object(s, Field::TaskState, t);
     let event = of_object(s, Field::EventState, t + 1);
@@ -125,7 +125,7 @@ fn does_output_agree(s: &[u64], marks: &[u8; names::OBJECT_PLACES], t: u64) -> b
 
 fn is_output_of(s: &[u64], marks: &[u8; names::OBJECT_PLACES], t: u64) -> bool
     requires { (words ≤ length s.now) × (t ≤ most_objects) × Shows marks.now (busy (read s.now)) }
-    ensures { result ≡ test (output_of (was s) t) }
+    ensures { result ≡ test (output_of (was s.now) t) }
 {
     let kind = of_object(s, Field::EventType, t + 1);
     let agrees = (kind == names::OUTPUT) & does_output_agree(s, marks, t);
@@ -134,7 +134,7 @@ fn is_output_of(s: &[u64], marks: &[u8; names::OBJECT_PLACES], t: u64) -> bool
 
 fn has_output(s: &[u64], marks: &[u8; names::OBJECT_PLACES], h: u64) -> bool
     requires { (words ≤ length s.now) × (h ≤ most_objects) × Shows marks.now (busy (read s.now)) }
-    ensures { result ≡ test (output_at (was s) h) }
+    ensures { result ≡ test (output_at (was s.now) h) }
 {
     let kind = of_object(s, Field::Kind, h);
     let b = previous(h);
@@ -148,7 +148,7 @@ fn has_output(s: &[u64], marks: &[u8; names::OBJECT_PLACES], h: u64) -> bool
 // An output event follows its task, and agrees with it.
 pub fn are_outputs(s: &[u64], marks: &[u8; names::OBJECT_PLACES], n: u64) -> bool
     requires { (words ≤ length s.now) × (n ≤ most_objects) × Shows marks.now (busy (read s.now)) }
-    ensures { result ≡ test (each (n + 1) (output_at (was s))) }
+    ensures { result ≡ test (each (n + 1) (output_at (was s.now))) }
 {
     let mut ok = true;
     let mut h: u64 = 0;

@@ -12,7 +12,7 @@ use session::{Field, names};
 
 pub fn is_no_slot(s: &[u64], i: u64) -> bool
     requires { words ≤ length s.now }
-    ensures { result ≡ test (no_slot (was s) i) }
+    ensures { result ≡ test (no_slot (was s.now) i) }
 {
     let payload = of_slot(s, Field::SlotPayload, i);
     (of_slot(s, Field::SlotMode, i) == 0) & ((of_slot(s, Field::SlotMark, i) == 0) & (payload == 0))
@@ -20,7 +20,7 @@ pub fn is_no_slot(s: &[u64], i: u64) -> bool
 
 fn are_no_slots(s: &[u64], h: u64) -> bool
     requires { (words ≤ length s.now) × (h ≤ most_objects) }
-    ensures { result ≡ test (each 16 (no_slot_of (was s) h)) }
+    ensures { result ≡ test (each 16 (no_slot_of (was s.now) h)) }
 {
     let mut ok = true;
     let mut j: u64 = 0;
@@ -33,7 +33,7 @@ fn are_no_slots(s: &[u64], h: u64) -> bool
 
 fn is_empty(s: &[u64], h: u64) -> bool
     requires { (words ≤ length s.now) × (h ≤ most_objects) }
-    ensures { result ≡ test (empty_object (was s) h) }
+    ensures { result ≡ test (empty_object (was s.now) h) }
 {
     let parts = event_part(s, h) & (block_part(s, h) & are_no_slots(s, h));
     (of_object(s, Field::Kind, h) == 0) & (template_part(s, h) & (task_part(s, h) & parts))
@@ -41,7 +41,7 @@ fn is_empty(s: &[u64], h: u64) -> bool
 
 fn is_unused(s: &[u64], h: u64) -> bool
     requires { (words ≤ length s.now) × (h ≤ most_objects) }
-    ensures { result ≡ test (unused_object (was s) h) }
+    ensures { result ≡ test (unused_object (was s.now) h) }
 {
     if h <= session::get(s, Field::Objects, 0) {
         return true;
@@ -51,7 +51,7 @@ fn is_unused(s: &[u64], h: u64) -> bool
 
 fn are_unused(s: &[u64]) -> bool
     requires { words ≤ length s.now }
-    ensures { result ≡ test (each object_places (unused_object (was s))) }
+    ensures { result ≡ test (each object_places (unused_object (was s.now))) }
 {
     let mut ok = true;
     let mut h: u64 = 0;
@@ -64,7 +64,7 @@ fn are_unused(s: &[u64]) -> bool
 
 fn is_no_link(s: &[u64], l: u64) -> bool
     requires { words ≤ length s.now }
-    ensures { result ≡ test (no_link (was s) l) }
+    ensures { result ≡ test (no_link (was s.now) l) }
 {
     let target = of_link(s, Field::LinkTarget, l);
     let ends = (of_link(s, Field::LinkSlot, l) == 0) & (of_link(s, Field::LinkState, l) == 0);
@@ -73,14 +73,14 @@ fn is_no_link(s: &[u64], l: u64) -> bool
 
 fn is_unused_link(s: &[u64], l: u64) -> bool
     requires { words ≤ length s.now }
-    ensures { result ≡ test (unused_link (was s) l) }
+    ensures { result ≡ test (unused_link (was s.now) l) }
 {
     !(session::get(s, Field::Links, 0) < l) | is_no_link(s, l)
 }
 
 fn are_unused_links(s: &[u64]) -> bool
     requires { words ≤ length s.now }
-    ensures { result ≡ test (each link_places (unused_link (was s))) }
+    ensures { result ≡ test (each link_places (unused_link (was s.now))) }
 {
     let mut ok = true;
     let mut l: u64 = 0;
@@ -93,7 +93,7 @@ fn are_unused_links(s: &[u64]) -> bool
 
 pub fn is_rest_unused(s: &[u64]) -> bool
     requires { words ≤ length s.now }
-    ensures { result ≡ test (unused (was s)) }
+    ensures { result ≡ test (unused (was s.now)) }
 {
     is_no_link(s, 0) & (are_unused(s) & are_unused_links(s))
 }

@@ -47,7 +47,7 @@ pub fn add(tally: &mut Tally, counts: Tally)
 pub fn run_sheet(sheet: &[u8], memory: &mut [u64], tally: &mut Tally) -> Tally
     requires { (words ≤ length memory.old) × Holds (kept (read memory.old)) }
     ensures answer { result ≡ counts_of sheet.now }
-    ensures memory { Becomes memory (print_sheet sheet.now fresh_session).session }
+    ensures memory { Becomes memory.old memory.new (print_sheet sheet.now fresh_session).session }
     ensures tally { tally.new ≡ raise tally.old (counts_of sheet.now) }
 {
     let counts = count_sheet(sheet, memory);
@@ -66,7 +66,7 @@ pub struct Ran {
 pub fn run_with(sheet: &[u8], memory: &mut [u64], tally: Tally) -> Ran
     requires { (words ≤ length memory.old) × Holds (kept (read memory.old)) }
     ensures answer { result.counts ≡ counts_of sheet.now }
-    ensures memory { Becomes memory (print_sheet sheet.now fresh_session).session }
+    ensures memory { Becomes memory.old memory.new (print_sheet sheet.now fresh_session).session }
     ensures tally { result.tally ≡ raise tally (counts_of sheet.now) }
 {
     let mut mine = tally;
