@@ -1,3 +1,5 @@
+#![tactic(auto)]
+
 // Which tasks have a live descendant, by marks at their handles.
 mod live;
 

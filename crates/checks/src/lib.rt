@@ -1,3 +1,5 @@
+#![tactic(auto)]
+
 // For each operation, why it is turned down: the number of the first check that fails, 0 where none does. Internal: callers
 // have shown the length.
 ghost use Rattle.std.specs.Prelude.{◌≡◌, ◌≤◌, length};

@@ -1,3 +1,5 @@
+#![tactic(auto)]
+
 // The class report step by step: a line for each learner's sheet that counts, and the sums. A report asks for some bytes of the file
 // and is handed them, so that a file of any length is reported from memory for two sheets.
 mod halves;

@@ -1,3 +1,5 @@
+#![tactic(auto)]
+
 // What the class program reads of standard input: ahead of what is asked for, but no byte past the last sheet.
 ghost use Rattle.std.specs.Prelude.{◌+◌, ◌-◌, ◌≤◌, ◌≡◌, length};
 ghost use Rattle.number.specs.Number.{splice};

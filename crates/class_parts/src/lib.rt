@@ -1,3 +1,5 @@
+#![tactic(auto)]
+
 // The class report of a file in memory, part by part.
 mod parts;
 mod passing;

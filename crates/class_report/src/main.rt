@@ -1,3 +1,5 @@
+#![tactic(auto)]
+
 // The class report program: reports the class file on standard input, in memory for two sheets.
 ghost use Rattle.std.specs.Prelude.{◌+◌, ◌≤◌, ◌≡◌, length};
 ghost use Rattle.sheet.specs.Printing.{Ready};

@@ -1,3 +1,5 @@
+#![tactic(auto)]
+
 // The class report part by part, with where it stands in lent words.
 ghost use Rattle.std.specs.Prelude.{◌≤◌, ◌≡◌, length};
 ghost use Rattle.number.specs.Number.{splice};

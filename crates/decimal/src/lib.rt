@@ -1,3 +1,5 @@
+#![tactic(auto)]
+
 // Numbers in decimal digits, as the lines have them.
 ghost use Rattle.std.specs.Prelude.{◌≡◌, ◌+◌, ◌≤◌, length};
 ghost use Rattle.number.specs.Number.{splice};

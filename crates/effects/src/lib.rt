@@ -1,3 +1,5 @@
+#![tactic(auto)]
+
 // What accepted operations that make and satisfy do to a session's memory: a function for each, by its name, and the parts that
 // others fire events with.
 mod delivering;

@@ -1,3 +1,5 @@
+#![tactic(auto)]
+
 // One operation on a session in lent memory.
 ghost use Rattle.std.specs.Prelude.{◌≤◌, length};
 ghost use Rattle.session.specs.Table.{read, words};

@@ -1,3 +1,5 @@
+#![tactic(auto)]
+
 // What accepted operations that hold blocks and let go of them do to a session's memory: a function for each, by its name, and
 // the parts that others let go with.
 mod granting;

@@ -1,3 +1,5 @@
+#![tactic(auto)]
+
 // The engine for other languages: C functions over numbers and slices (include/faltxigor.h).
 ghost use Rattle.std.specs.Prelude.{◌≡◌};
 ghost use Rattle.session.specs.Table.{read, pick};

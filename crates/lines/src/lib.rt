@@ -1,3 +1,5 @@
+#![tactic(auto)]
+
 // The lines that a sheet prints: three numbers in decimal, apart by a space, and a newline.
 ghost use Rattle.std.specs.Prelude.{◌≡◌, ◌+◌, ◌≤◌, length};
 ghost use Rattle.number.specs.Number.{splice};

@@ -1,3 +1,5 @@
+#![tactic(auto)]
+
 // A sheet as text: its edition on a line, then a line for each record, with the operation's name in a comment.
 ghost use Rattle.std.specs.Prelude.{◌≡◌, ◌+◌, ◌≤◌, length, get_or};
 ghost use Rattle.rules.specs.Arity.{is_code, field_count, name_of};

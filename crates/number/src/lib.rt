@@ -1,3 +1,5 @@
+#![tactic(auto)]
+
 // Numbers in groups of seven bits, lowest first, the high bit set on all but the last byte, in the fewest bytes.
 ghost use Rattle.std.specs.Prelude.{◌≡◌, ◌%◌, length};
 ghost use Rattle.number.specs.Number.{encode, judged, read_at, written, memory};

@@ -1,3 +1,5 @@
+#![tactic(auto)]
+
 // The sheet program: runs the sheet on standard input from a fresh session, and prints its lines and the last line.
 use sheet::Next;
 

@@ -1,3 +1,5 @@
+#![tactic(auto)]
+
 // What a session says at any place: past a field's places nothing stands, and the answer is 0, as the rules have it; and the code
 // of what the rules say of objects, links and holds (Reading.antt), one function each. Internal: callers have shown the length of the
 // memory; its words may be any numbers.

@@ -1,3 +1,5 @@
+#![tactic(auto)]
+
 // An operation as a record of a sheet: its code, then its fields, each a number.
 ghost use Rattle.std.specs.Prelude.{◌≡◌, ◌+◌, ◌≤◌, ◌<◌, length, get_or};
 ghost use Rattle.number.specs.Number.{encode, splice};

@@ -1,3 +1,5 @@
+#![tactic(auto)]
+
 // What accepted operations that destroy and end do to a session's memory: a function for each, by its name.
 mod climbing;
 mod destroying;

@@ -1,3 +1,5 @@
+#![tactic(auto)]
+
 // A sheet, run on a session in lent memory: record after record, each with its answer line in lent memory.
 ghost use Rattle.std.specs.Prelude.{◌≡◌, true, ◌+◌, ◌≤◌, ◌<◌, ◌^◌, length};
 ghost use Rattle.session.specs.Table.{Wrote, read, words};

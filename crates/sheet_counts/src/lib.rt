@@ -1,3 +1,5 @@
+#![tactic(auto)]
+
 // A sheet run from a fresh session for its four counts, as a class report tells them.
 ghost use Rattle.std.specs.Prelude.{◌≡◌, ◌≤◌, ◌<◌, length};
 ghost use Rattle.session.specs.Table.{read, words};

@@ -1,3 +1,5 @@
+#![tactic(auto)]
+
 // Prints a sheet as text: reads standard input, whose first 32,768 bytes at most are the sheet, and writes a line for each record,
 // with the operation's name in a comment. What can not be read is told in a comment at the end.
 fn main() {

@@ -1,3 +1,5 @@
+#![tactic(auto)]
+
 // Whether lent memory holds a sound session (document 01, "A sound session"; check 2). Words may be any numbers.
 // The rules are looked at in an order in which each finds what it needs of the earlier ones, and each in one pass.
 ghost use Rattle.std.specs.Prelude.{◌≡◌, ◌≤◌, length};

@@ -1,3 +1,5 @@
+#![tactic(auto)]
+
 // The tally of a class, lent to each sheet's run, which raises it.
 ghost use Rattle.std.specs.Prelude.{◌≡◌, ◌≤◌, length};
 ghost use Rattle.session.specs.Table.{read, words};

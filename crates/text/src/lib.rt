@@ -1,3 +1,5 @@
+#![tactic(auto)]
+
 // A sheet typed as text: numbers in decimal, apart by blanks, and `#` starts a comment to the end of its line.
 ghost use Rattle.std.specs.Prelude.{◌≡◌, ◌+◌, ◌≤◌, length};
 ghost use Rattle.number.specs.Number.{encode, splice};

@@ -1,3 +1,5 @@
+#![tactic(auto)]
+
 // Turns a sheet that was typed as text into its bytes: reads standard input, and writes the sheet to standard output. Of a text
 // with a word that is no number, or is above 4,294,967,295, it prints `line N` and no sheet.
 fn main() {

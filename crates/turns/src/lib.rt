@@ -1,3 +1,5 @@
+#![tactic(auto)]
+
 // Two sheets of one learner: which of them counts, and where sheets lie in a memory.
 ghost use Rattle.std.specs.Prelude.{◌≤◌, ◌≡◌, length, take, drop};
 ghost use Rattle.rules.specs.Formula.{choose, Formula.◌≼◌};

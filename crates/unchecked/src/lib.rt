@@ -1,3 +1,5 @@
+#![tactic(auto)]
+
 // The engine without checks 1 and 2, for tests/compare alone, which measures it and holds it beside the second engine. It is
 // offered to nobody and stands in no header: words that are no sound session are not looked at, and may end the program.
 ghost use Rattle.std.specs.Prelude.{◌≤◌, length};
