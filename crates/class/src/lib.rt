@@ -22,7 +22,7 @@ pub const TWO_SHEETS: usize = 65536;
 
 // What a report prints or reads next: its head, the number of sheets, an entry's learner, turn and length, its sheet, the line of
 // the pending sheet, the last line; or nothing.
-#[derive(Drop)]
+#[derive(Clone, Copy)]
 pub enum Stage {
     Head,
     Count,
@@ -36,7 +36,7 @@ pub enum Stage {
 }
 
 // A sheet that was turned in: whose it is, and where its bytes lie.
-#[derive(Drop)]
+#[derive(Clone, Copy)]
 pub struct Turned {
     pub learner: u64,
     pub turn: u64,
@@ -45,7 +45,7 @@ pub struct Turned {
 }
 
 // Whose sheet is pending: it counts for its learner unless a later entry supersedes it.
-#[derive(Drop)]
+#[derive(Clone, Copy)]
 pub enum Pending {
     Nobody,
     Somebody(Turned),
@@ -53,7 +53,7 @@ pub enum Pending {
 
 // Where a report stands: what comes next, the number that is being read, how many entries are left with this one, what was read
 // of this one, the number of a stop or 0, the pending sheet, and the tally of those printed.
-#[derive(Drop)]
+#[derive(Clone, Copy)]
 pub struct Report {
     pub stage: Stage,
     pub number: Reader,
@@ -67,7 +67,7 @@ pub struct Report {
 }
 
 // What a step leaves: where the report stands then, and the length of what it printed.
-#[derive(Drop)]
+#[derive(Clone, Copy)]
 pub struct Step {
     pub report: Report,
     pub used: usize,

@@ -224,7 +224,7 @@ fn one_less(left: u64) -> u64
 }
 
 // What the run of a pending sheet leaves: the tally, and the length of its line.
-#[derive(Drop)]
+#[derive(Clone, Copy)]
 pub struct Shown {
     pub tally: Tally,
     pub used: usize,

@@ -16,14 +16,14 @@ pub const INPUT: usize = 16384;
 const ENTRIES: u64 = 5461;
 
 // Where the bytes lie that were read and are not handed yet: from one place of a memory to another.
-#[derive(Drop)]
+#[derive(Clone, Copy)]
 pub struct Window {
     pub from: usize,
     pub to: usize,
 }
 
 // The place behind the bytes that are handed, and what is still to be handed.
-#[derive(Drop)]
+#[derive(Clone, Copy)]
 pub struct Handed {
     pub end: usize,
     pub window: Window,

@@ -8,7 +8,7 @@ use class::Report;
 pub use parts::report_part;
 
 // A part of a report: the refusal, 0 if there was none, the length of the lines, and the place and the report where to go on.
-#[derive(Drop)]
+#[derive(Clone, Copy)]
 pub struct Part {
     pub refused: u64,
     pub used: usize,

@@ -11,14 +11,14 @@ use number::{LIMIT_32, Reading};
 use sheet_counts::Tally;
 
 // The numbers of an entry, with its sheet's place; or not all of them can be read.
-#[derive(Drop)]
+#[derive(Clone, Copy)]
 pub enum Header {
     Numbers(Turned),
     Other,
 }
 
 // Where a report stands behind what was passed over.
-#[derive(Drop)]
+#[derive(Clone, Copy)]
 pub struct Along {
     pub place: usize,
     pub report: Report,

@@ -12,7 +12,7 @@ pub use reader::{Fed, Reader, feed, start};
 pub const LIMIT_32: u64 = 4294967295;
 
 // What reading a number gives: its value and the next place, a bad number and the next place, or a number cut short.
-#[derive(Drop)]
+#[derive(Clone, Copy)]
 pub enum Reading {
     Value(u64, usize),
     Bad(usize),
@@ -20,7 +20,7 @@ pub enum Reading {
 }
 
 // What writing a number gives: the new used length, or that there was no room.
-#[derive(Drop)]
+#[derive(Clone, Copy)]
 pub enum Written {
     Used(usize),
     NoRoom,

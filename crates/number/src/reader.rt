@@ -5,14 +5,14 @@ ghost use Rattle.number.specs.Fed.{start, group_fits, fed};
 use crate::group;
 
 // A number that is being read: its value so far, and the weight of the next byte's group, 0 once it is bad whatever follows.
-#[derive(Drop)]
+#[derive(Clone, Copy)]
 pub struct Reader {
     pub value: u64,
     pub weight: u64,
 }
 
 // What feeding a byte gives: the number goes on, or its value, or a bad number.
-#[derive(Drop)]
+#[derive(Clone, Copy)]
 pub enum Fed {
     More(Reader),
     Whole(u64),

@@ -12,7 +12,7 @@ use crate::{of_link, of_object};
 use session::{Field, names};
 
 // The links from an event: made, and of these delivered.
-#[derive(Drop)]
+#[derive(Clone, Copy)]
 struct FromEvent {
     made: u64,
     delivered: u64,

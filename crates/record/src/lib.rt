@@ -17,7 +17,7 @@ pub const RECORD_ROOM: usize = 32;
 
 // What reading a record gives: the refusal (0 if there is none), the operation, and the place behind the record. Under a
 // refusal the operation and the place are 0, and so are the fields past those that the operation has.
-#[derive(Drop)]
+#[derive(Clone, Copy)]
 pub struct Record {
     pub refused: u64,
     pub operation: Operation,
@@ -25,7 +25,7 @@ pub struct Record {
 }
 
 // The place behind what was read or written, or the number of the check that failed.
-#[derive(Drop)]
+#[derive(Clone, Copy)]
 pub enum Place {
     Behind(usize),
     Refused(u64),

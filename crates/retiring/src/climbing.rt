@@ -16,7 +16,7 @@ use session::{Field, names};
 
 // How far a walk has come: the steps climbed, and the event that it found to fire, 0 where there is none and a number past every
 // handle where there are more.
-#[derive(Drop)]
+#[derive(Clone, Copy)]
 pub struct Walk {
     pub steps: u64,
     pub found: u64,

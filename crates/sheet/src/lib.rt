@@ -27,7 +27,7 @@ pub const LINE_ROOM: usize = 32;
 
 // How a run ended: the length of the lines, the place of the record that was not run or of the sheet's end, the number of the
 // record begun last (0 for the sheet's first number), and the refusal that ended it, 0 at the sheet's end.
-#[derive(Drop)]
+#[derive(Clone, Copy)]
 pub struct Ended {
     pub used: usize,
     pub place: usize,
@@ -36,7 +36,7 @@ pub struct Ended {
 }
 
 // How the last line was written: the refusal, 0 if it was, and the length of the lines.
-#[derive(Drop)]
+#[derive(Clone, Copy)]
 pub struct Closed {
     pub refused: u64,
     pub used: usize,
@@ -44,7 +44,7 @@ pub struct Closed {
 
 // Where a sheet's lines go on: at a place of it, behind so many records (place 0 is its first number), or at the last line; or
 // nothing is left.
-#[derive(Drop)]
+#[derive(Clone, Copy)]
 pub enum Next {
     At(usize, u64),
     LastLine,
@@ -52,7 +52,7 @@ pub enum Next {
 }
 
 // A part of a sheet's lines: the refusal, 0 if there was none, the length of the lines, and where to go on.
-#[derive(Drop)]
+#[derive(Clone, Copy)]
 pub struct Part {
     pub refused: u64,
     pub used: usize,
@@ -61,7 +61,7 @@ pub struct Part {
 
 // What a record leads to: the place of the next one and the length of the lines, or the length of the lines and the refusal
 // that ends the sheet.
-#[derive(Drop)]
+#[derive(Clone, Copy)]
 pub enum Went {
     On(usize, usize),
     Stopped(usize, u64),

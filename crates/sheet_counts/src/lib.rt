@@ -23,7 +23,7 @@ use session::Field;
 const START: u64 = 11;
 
 // Records (answer lines), those refused (line 0 too), accepted starts, dropped deliveries: of one sheet, or of a whole class.
-#[derive(Drop)]
+#[derive(Clone, Copy)]
 pub struct Tally {
     pub records: u64,
     pub refused: u64,
@@ -32,14 +32,14 @@ pub struct Tally {
 }
 
 // An operation's answer, counted: 1 if it was refused, 1 if it was an accepted start.
-#[derive(Drop)]
+#[derive(Clone, Copy)]
 struct Told {
     refused: u64,
     starts: u64,
 }
 
 // What a record leads to: the place of the next one and its answer, counted; or it ended the sheet with a refusal.
-#[derive(Drop)]
+#[derive(Clone, Copy)]
 enum Went {
     On(usize, Told),
     Stopped,

@@ -58,7 +58,7 @@ pub fn run_sheet(sheet: &[u8], memory: &mut [u64], tally: &mut Tally) -> Tally
 }
 
 // A sheet's run, and the tally that it leaves.
-#[derive(Drop)]
+#[derive(Clone, Copy)]
 pub struct Ran {
     pub counts: Tally,
     pub tally: Tally,

@@ -13,7 +13,7 @@ mod printed;
 pub use printed::{Printed, put_printed, write_bytes};
 
 // What a byte is to a reader of text.
-#[derive(Drop)]
+#[derive(Clone, Copy)]
 pub enum Kind {
     Newline,
     Blank,
@@ -24,7 +24,7 @@ pub enum Kind {
 
 // Where a reader of text stands: between words, in a word whose digits so far have this value, in a comment, or at a word that
 // is no number or is above the limit.
-#[derive(Drop)]
+#[derive(Clone, Copy)]
 pub enum Mode {
     Between,
     Word(u64),
@@ -34,7 +34,7 @@ pub enum Mode {
 
 // What a text gives: the length of its sheet, the line (from 1) of the first word that is no number or is above the limit, or
 // that the memory lent is shorter than the text.
-#[derive(Drop)]
+#[derive(Clone, Copy)]
 pub enum Typed {
     Sheet(usize),
     BadLine(u64),

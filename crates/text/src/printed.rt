@@ -13,7 +13,7 @@ const MOST: usize = 262144;
 const PRINTED_MORE: usize = 16;
 
 // Bytes to be printed that were put at the start of lent memory: how many there are, or refusal 1 and none.
-#[derive(Drop)]
+#[derive(Clone, Copy)]
 pub struct Printed {
     pub refused: u64,
     pub used: usize,
