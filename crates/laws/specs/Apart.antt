@@ -35,6 +35,26 @@ whole s t j a here = all (slots ∷ []) a.others again
   where
     again : (n : Name) → Excepted (slots ∷ []) n → Holds (says n s)
     again slots due = all_slots s t j a.elsewhere here
+    again Rattle.laws.specs.Rows.counts x' = elim x' [ ]
+    again Rattle.laws.specs.Rows.kinds x'' = elim x'' [ ]
+    again Rattle.laws.specs.Rows.template_parts x3 = elim x3 [ ]
+    again Rattle.laws.specs.Rows.task_parts x4 = elim x4 [ ]
+    again Rattle.laws.specs.Rows.event_parts x5 = elim x5 [ ]
+    again Rattle.laws.specs.Rows.block_parts x6 = elim x6 [ ]
+    again Rattle.laws.specs.Rows.roots x7 = elim x7 [ ]
+    again Rattle.laws.specs.Rows.creators x8 = elim x8 [ ]
+    again Rattle.laws.specs.Rows.outputs x9 = elim x9 [ ]
+    again Rattle.laws.specs.Rows.links x10 = elim x10 [ ]
+    again Rattle.laws.specs.Rows.one_link x11 = elim x11 [ ]
+    again Rattle.laws.specs.Rows.states x12 = elim x12 [ ]
+    again Rattle.laws.specs.Rows.blocks x13 = elim x13 [ ]
+    again Rattle.laws.specs.Rows.compatible x14 = elim x14 [ ]
+    again Rattle.laws.specs.Rows.latches x15 = elim x15 [ ]
+    again Rattle.laws.specs.Rows.counted_events x16 = elim x16 [ ]
+    again Rattle.laws.specs.Rows.dropped x17 = elim x17 [ ]
+    again Rattle.laws.specs.Rows.free_slots x18 = elim x18 [ ]
+    again Rattle.laws.specs.Rows.free_links x19 = elim x19 [ ]
+    again Rattle.laws.specs.Rows.settled x20 = elim x20 [ ]
 
 -- where all is in order, any slot may be set apart
 pub apart : (s : Session) (t j : ℕ) → Kept s → Apart s t j

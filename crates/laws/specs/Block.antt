@@ -73,6 +73,25 @@ module _ (s : Session) (caller hold : ℕ) where
         let e = state in
         let still : after TaskState caller ≡ running = was (born room) TaskState refl caller runs.0.1 ∙ runs.1.1 in
         λ _. ((λ _. rw maker (runs.0.0, still)), ((λ d. absurd (omega arith)), λ d. absurd (omega arith)))
+    shows Rattle.laws.specs.Rows.counts x' = elim x' [ ]
+    shows Rattle.laws.specs.Rows.kinds x'' = elim x'' [ ]
+    shows Rattle.laws.specs.Rows.template_parts x3 = elim x3 [ ]
+    shows Rattle.laws.specs.Rows.task_parts x4 = elim x4 [ ]
+    shows Rattle.laws.specs.Rows.event_parts x5 = elim x5 [ ]
+    shows Rattle.laws.specs.Rows.roots x6 = elim x6 [ ]
+    shows Rattle.laws.specs.Rows.creators x7 = elim x7 [ ]
+    shows Rattle.laws.specs.Rows.outputs x8 = elim x8 [ ]
+    shows Rattle.laws.specs.Rows.slots x9 = elim x9 [ ]
+    shows Rattle.laws.specs.Rows.links x10 = elim x10 [ ]
+    shows Rattle.laws.specs.Rows.one_link x11 = elim x11 [ ]
+    shows Rattle.laws.specs.Rows.states x12 = elim x12 [ ]
+    shows Rattle.laws.specs.Rows.compatible x13 = elim x13 [ ]
+    shows Rattle.laws.specs.Rows.latches x14 = elim x14 [ ]
+    shows Rattle.laws.specs.Rows.counted_events x15 = elim x15 [ ]
+    shows Rattle.laws.specs.Rows.dropped x16 = elim x16 [ ]
+    shows Rattle.laws.specs.Rows.free_slots x17 = elim x17 [ ]
+    shows Rattle.laws.specs.Rows.free_links x18 = elim x18 [ ]
+    shows Rattle.laws.specs.Rows.settled x19 = elim x19 [ ]
 
 pub block_keeps : (s : Session) (caller hold : ℕ) → Checked (block_checks s caller hold) → Kept s → Kept (new_block s caller hold)
 block_keeps s caller hold m h =

@@ -45,6 +45,10 @@ differ an_event a_block due = (λ e. omega arith, refl)
 differ a_block a_template due = (λ e. omega arith, refl)
 differ a_block a_task due = (λ e. omega arith, refl)
 differ a_block an_event due = (λ e. omega arith, refl)
+differ a_template a_template x'' = elim x'' [ ]
+differ a_task a_task x3 = elim x3 [ ]
+differ an_event an_event x4 = elim x4 [ ]
+differ a_block a_block x5 = elim x5 [ ]
 
 module _ {s g : Session} {k : Sort} (b : Born s g k) where
   -- the words of another handle

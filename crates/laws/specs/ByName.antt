@@ -102,6 +102,26 @@ by_name s h = all (settled ∷ []) (sound_by_name s h.0) again
   where
     again : (n : Name) → Excepted (settled ∷ []) n → Holds (says n s)
     again settled due = h.1
+    again counts x' = elim x' [ ]
+    again kinds x'' = elim x'' [ ]
+    again template_parts x3 = elim x3 [ ]
+    again task_parts x4 = elim x4 [ ]
+    again event_parts x5 = elim x5 [ ]
+    again block_parts x6 = elim x6 [ ]
+    again roots x7 = elim x7 [ ]
+    again creators x8 = elim x8 [ ]
+    again outputs x9 = elim x9 [ ]
+    again slots x10 = elim x10 [ ]
+    again links x11 = elim x11 [ ]
+    again one_link x12 = elim x12 [ ]
+    again states x13 = elim x13 [ ]
+    again blocks x14 = elim x14 [ ]
+    again compatible x15 = elim x15 [ ]
+    again latches x16 = elim x16 [ ]
+    again counted_events x17 = elim x17 [ ]
+    again dropped x18 = elim x18 [ ]
+    again free_slots x19 = elim x19 [ ]
+    again free_links x20 = elim x20 [ ]
 
 pub kept_of : (s : Session) → Kept s → Holds (kept s)
 unfolding kept

@@ -61,11 +61,29 @@ module _ (s : Session) (t j mode : ℕ) (m : Holds (made s t)) (low : j < 16) (f
   shows roots due = rw (beside_root (roots_by_name s (h roots) main_mode)) (h roots)
   shows compatible due = claim-compatible
   shows free_slots due = λ i l g k b. claim_none i g k b (h free_slots i l g k b)
+  shows Rattle.laws.specs.Rows.counts x' = elim x' [ ]
+  shows Rattle.laws.specs.Rows.kinds x'' = elim x'' [ ]
+  shows Rattle.laws.specs.Rows.template_parts x3 = elim x3 [ ]
+  shows Rattle.laws.specs.Rows.task_parts x4 = elim x4 [ ]
+  shows Rattle.laws.specs.Rows.event_parts x5 = elim x5 [ ]
+  shows Rattle.laws.specs.Rows.block_parts x6 = elim x6 [ ]
+  shows Rattle.laws.specs.Rows.creators x7 = elim x7 [ ]
+  shows Rattle.laws.specs.Rows.outputs x8 = elim x8 [ ]
+  shows slots x9 = elim x9 [ ]
+  shows Rattle.laws.specs.Rows.links x10 = elim x10 [ ]
+  shows Rattle.laws.specs.Rows.one_link x11 = elim x11 [ ]
+  shows Rattle.laws.specs.Rows.states x12 = elim x12 [ ]
+  shows Rattle.laws.specs.Rows.blocks x13 = elim x13 [ ]
+  shows Rattle.laws.specs.Rows.latches x14 = elim x14 [ ]
+  shows Rattle.laws.specs.Rows.counted_events x15 = elim x15 [ ]
+  shows Rattle.laws.specs.Rows.dropped x16 = elim x16 [ ]
+  shows Rattle.laws.specs.Rows.free_links x17 = elim x17 [ ]
+  shows Rattle.laws.specs.Rows.settled x18 = elim x18 [ ]
 
   pub claim_apart : Apart (put s SlotMode (at t j) mode) t j
   unfolding put
   claim_apart =
       record {
-        others = kept_by (slots ∷ []) (outside_put (at t j) mode (outside_same s)) (but (slots ∷ []) h) shows;
+        others = kept_by (slots ∷ []) (outside_put {f = SlotMode} (at t j) mode (outside_same s)) (but (slots ∷ []) h) shows;
         elsewhere = λ i l k b n. rw (beside_slot i k b n) (h slots i l k b);
       }

@@ -189,11 +189,16 @@ module _ (s : Session) (l : ℕ) (low : 1 ≤ l) (high : l ≤ s Links 0) (was :
       go : Holds (slot s (s LinkTarget l) (s LinkSlot l)) → Holds (slot (handed s l) (s LinkTarget l) (s LinkSlot l))
       go (inr x) = inr x
       go (inl x) =
-          inl (x.0, (x.1.0, inr (claimed_lasts d j (outside_put l delivered (outside_same s)) (is-claimed x.0) shows)))
+          inl (x.0, (x.1.0, inr (claimed_lasts d j (outside_put {f = LinkState} l delivered (outside_same s)) (is-claimed x.0) shows)))
         where
           shows : (n : Claimed) → DueOf (claimed_row d j) (LinkState ∷ []) n → Holds (claimed_says d j n (handed s l))
           shows waits due = inl (over x.0)
           shows brought due = λ m. let z = empty x.0 in absurd (omega arith)
+          shows mode_low x3 = elim x3 [ ]
+          shows mode_high x4 = elim x4 [ ]
+          shows Rattle.laws.specs.Conjuncts.mark_high x5 = elim x5 [ ]
+          shows Rattle.laws.specs.Conjuncts.payload x6 = elim x6 [ ]
+          shows Rattle.laws.specs.Conjuncts.empty x7 = elim x7 [ ]
 
   mark_keeps : (s Kind (s LinkTarget l) ≡ task → s TaskState (s LinkTarget l) ≡ task_destroyed) → Kept (handed s l)
   mark_keeps over = whole (handed s l) (s LinkTarget l) (s LinkSlot l) (mark_apart s l low high was last r) (mark-slot over)
@@ -201,10 +206,30 @@ module _ (s : Session) (l : ℕ) (low : 1 ≤ l) (high : l ≤ s Links 0) (was :
   drops_keeps : Holds (drops s (s LinkTarget l) (s LinkSlot l)) → Kept (thrown s l)
   unfolding put
   drops_keeps x =
-      kept_by [] (outside_put 0 (s Dropped 0 + 1) (outside_same (handed s l))) (mark_keeps (λ k. gone_destroyed k x)) shows
+      kept_by [] (outside_put {f = Dropped} 0 (s Dropped 0 + 1) (outside_same (handed s l))) (mark_keeps (λ k. gone_destroyed k x)) shows
     where
       shows : (n : Name) → Due (Dropped ∷ []) [] n → Holds (says n (thrown s l))
       shows dropped due = mark_dropped_more s l low high was last r
+      shows counts x'' = elim x'' [ ]
+      shows Rattle.laws.specs.Rows.kinds x3 = elim x3 [ ]
+      shows Rattle.laws.specs.Rows.template_parts x4 = elim x4 [ ]
+      shows task_parts x5 = elim x5 [ ]
+      shows event_parts x6 = elim x6 [ ]
+      shows Rattle.laws.specs.Rows.block_parts x7 = elim x7 [ ]
+      shows Rattle.laws.specs.Rows.roots x8 = elim x8 [ ]
+      shows Rattle.laws.specs.Rows.creators x9 = elim x9 [ ]
+      shows Rattle.laws.specs.Rows.outputs x10 = elim x10 [ ]
+      shows slots x11 = elim x11 [ ]
+      shows links x12 = elim x12 [ ]
+      shows one_link x13 = elim x13 [ ]
+      shows states x14 = elim x14 [ ]
+      shows Rattle.laws.specs.Rows.blocks x15 = elim x15 [ ]
+      shows Rattle.laws.specs.Rows.compatible x16 = elim x16 [ ]
+      shows Rattle.laws.specs.Rows.latches x17 = elim x17 [ ]
+      shows Rattle.laws.specs.Rows.counted_events x18 = elim x18 [ ]
+      shows Rattle.laws.specs.Rows.free_slots x19 = elim x19 [ ]
+      shows Rattle.laws.specs.Rows.free_links x20 = elim x20 [ ]
+      shows settled x21 = elim x21 [ ]
 
   fills_task_keeps : (Holds (drops s (s LinkTarget l) (s LinkSlot l)) → ⊥) → s Kind (s LinkTarget l) ≡ task
       → Kept (satisfy_slot (handed s l) (s LinkTarget l) (s LinkSlot l) (brings s l))

@@ -40,6 +40,26 @@ module _ (s : Session) (h : ℕ) (kind : Holds (is_kind s template h)) (r : Kept
 
   shows : (n : Name) → Due (TemplateState ∷ []) [] n → Holds (says n (gone s h))
   shows template_parts due = λ i l. gone-part i (r template_parts i l)
+  shows Rattle.laws.specs.Rows.counts x' = elim x' [ ]
+  shows kinds x'' = elim x'' [ ]
+  shows Rattle.laws.specs.Rows.task_parts x3 = elim x3 [ ]
+  shows Rattle.laws.specs.Rows.event_parts x4 = elim x4 [ ]
+  shows Rattle.laws.specs.Rows.block_parts x5 = elim x5 [ ]
+  shows Rattle.laws.specs.Rows.roots x6 = elim x6 [ ]
+  shows Rattle.laws.specs.Rows.creators x7 = elim x7 [ ]
+  shows Rattle.laws.specs.Rows.outputs x8 = elim x8 [ ]
+  shows Rattle.laws.specs.Rows.slots x9 = elim x9 [ ]
+  shows Rattle.laws.specs.Rows.links x10 = elim x10 [ ]
+  shows Rattle.laws.specs.Rows.one_link x11 = elim x11 [ ]
+  shows Rattle.laws.specs.Rows.states x12 = elim x12 [ ]
+  shows Rattle.laws.specs.Rows.blocks x13 = elim x13 [ ]
+  shows Rattle.laws.specs.Rows.compatible x14 = elim x14 [ ]
+  shows Rattle.laws.specs.Rows.latches x15 = elim x15 [ ]
+  shows Rattle.laws.specs.Rows.counted_events x16 = elim x16 [ ]
+  shows Rattle.laws.specs.Rows.dropped x17 = elim x17 [ ]
+  shows Rattle.laws.specs.Rows.free_slots x18 = elim x18 [ ]
+  shows Rattle.laws.specs.Rows.free_links x19 = elim x19 [ ]
+  shows Rattle.laws.specs.Rows.settled x20 = elim x20 [ ]
 
   destroy_template_keeps : Kept (gone s h)
   destroy_template_keeps = kept_by [] (outside_put h template_destroyed (outside_same s)) r shows

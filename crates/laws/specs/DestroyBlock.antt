@@ -64,6 +64,9 @@ module _ (s : Session) (b : ℕ) (kind : s Kind b ≡ block) (r : Kept s) where
           shows : (n : Block) → DueOf (block_row h) (BlockState ∷ []) n → Holds (block_says h n (condemn s b))
           shows state_low due = low
           shows state_high due = high
+          shows Rattle.laws.specs.Conjuncts.is_block x'' = elim x'' [ ]
+          shows Rattle.laws.specs.Conjuncts.held_flag_lem x3 = elim x3 [ ]
+          shows Rattle.laws.specs.Conjuncts.has_creator x4 = elim x4 [ ]
 
       go : After s b h → Holds (block_part (condemn s b) h)
       go (same e) = rw e x
@@ -91,6 +94,25 @@ module _ (s : Session) (b : ℕ) (kind : s Kind b ≡ block) (r : Kept s) where
   shows : (n : Name) → Due (BlockState ∷ []) [] n → Holds (says n (condemn s b))
   shows block_parts due = λ h l. condemn_block_part h (r block_parts h l)
   shows blocks due = condemn_blocks
+  shows Rattle.laws.specs.Rows.counts x' = elim x' [ ]
+  shows Rattle.laws.specs.Rows.kinds x'' = elim x'' [ ]
+  shows Rattle.laws.specs.Rows.template_parts x3 = elim x3 [ ]
+  shows Rattle.laws.specs.Rows.task_parts x4 = elim x4 [ ]
+  shows Rattle.laws.specs.Rows.event_parts x5 = elim x5 [ ]
+  shows Rattle.laws.specs.Rows.roots x6 = elim x6 [ ]
+  shows Rattle.laws.specs.Rows.creators x7 = elim x7 [ ]
+  shows Rattle.laws.specs.Rows.outputs x8 = elim x8 [ ]
+  shows Rattle.laws.specs.Rows.slots x9 = elim x9 [ ]
+  shows Rattle.laws.specs.Rows.links x10 = elim x10 [ ]
+  shows Rattle.laws.specs.Rows.one_link x11 = elim x11 [ ]
+  shows Rattle.laws.specs.Rows.states x12 = elim x12 [ ]
+  shows Rattle.laws.specs.Rows.compatible x13 = elim x13 [ ]
+  shows Rattle.laws.specs.Rows.latches x14 = elim x14 [ ]
+  shows Rattle.laws.specs.Rows.counted_events x15 = elim x15 [ ]
+  shows Rattle.laws.specs.Rows.dropped x16 = elim x16 [ ]
+  shows Rattle.laws.specs.Rows.free_slots x17 = elim x17 [ ]
+  shows Rattle.laws.specs.Rows.free_links x18 = elim x18 [ ]
+  shows Rattle.laws.specs.Rows.settled x19 = elim x19 [ ]
 
   condemn_keeps : Kept (condemn s b)
   condemn_keeps = kept_by [] writes r shows

@@ -102,6 +102,12 @@ module _ (s : Session) (e : ℕ) (kind : Holds (is_kind s event e)) (low : 1 ≤
           shows state_low due = rw q lo
           shows state_high due = rw q hi
           shows paid due = pays
+          shows Rattle.laws.specs.Conjuncts.is_event x'' = elim x'' [ ]
+          shows Rattle.laws.specs.Conjuncts.type_known x3 = elim x3 [ ]
+          shows Rattle.laws.specs.Conjuncts.has_payload x4 = elim x4 [ ]
+          shows Rattle.laws.specs.Conjuncts.tally_high x5 = elim x5 [ ]
+          shows Rattle.laws.specs.Conjuncts.tally_kind x6 = elim x6 [ ]
+          shows Rattle.laws.specs.Conjuncts.count_fits x7 = elim x7 [ ]
 
       -- what had not fired has no payload
       unpaid : e ≡ i → (s EventState i ≡ fired → ⊥) → Holds (event_says i paid s) → s EventPayload i ≡ 0
@@ -234,3 +240,23 @@ destroy_event_keeps s e is user was h =
 
     again : (n : Name) → Excepted (outputs ∷ []) n → Holds (says n (destroy_event s e))
     again outputs due = keeps_outputs s e user.0 low was (user_no_output (s EventType e) user.1) (h outputs)
+    again counts x' = elim x' [ ]
+    again Rattle.laws.specs.Rows.kinds x'' = elim x'' [ ]
+    again Rattle.laws.specs.Rows.template_parts x3 = elim x3 [ ]
+    again Rattle.laws.specs.Rows.task_parts x4 = elim x4 [ ]
+    again event_parts x5 = elim x5 [ ]
+    again Rattle.laws.specs.Rows.block_parts x6 = elim x6 [ ]
+    again Rattle.laws.specs.Rows.roots x7 = elim x7 [ ]
+    again Rattle.laws.specs.Rows.creators x8 = elim x8 [ ]
+    again Rattle.laws.specs.Rows.slots x9 = elim x9 [ ]
+    again Rattle.laws.specs.Rows.links x10 = elim x10 [ ]
+    again Rattle.laws.specs.Rows.one_link x11 = elim x11 [ ]
+    again Rattle.laws.specs.Rows.states x12 = elim x12 [ ]
+    again Rattle.laws.specs.Rows.blocks x13 = elim x13 [ ]
+    again Rattle.laws.specs.Rows.compatible x14 = elim x14 [ ]
+    again Rattle.laws.specs.Rows.latches x15 = elim x15 [ ]
+    again Rattle.laws.specs.Rows.counted_events x16 = elim x16 [ ]
+    again Rattle.laws.specs.Rows.dropped x17 = elim x17 [ ]
+    again Rattle.laws.specs.Rows.free_slots x18 = elim x18 [ ]
+    again Rattle.laws.specs.Rows.free_links x19 = elim x19 [ ]
+    again Rattle.laws.specs.Rows.settled x20 = elim x20 [ ]

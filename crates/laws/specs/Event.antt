@@ -125,6 +125,24 @@ module _ (s : Session) (ty count : ℕ) where
     event_shows event_parts due = event_of (next s) after conjuncts
     event_shows latches due = λ x. absurd (unfired x.1.1)
     event_shows counted_events due = counts_none
+    event_shows Rattle.laws.specs.Rows.counts x' = elim x' [ ]
+    event_shows Rattle.laws.specs.Rows.kinds x'' = elim x'' [ ]
+    event_shows Rattle.laws.specs.Rows.template_parts x3 = elim x3 [ ]
+    event_shows Rattle.laws.specs.Rows.task_parts x4 = elim x4 [ ]
+    event_shows Rattle.laws.specs.Rows.block_parts x5 = elim x5 [ ]
+    event_shows Rattle.laws.specs.Rows.roots x6 = elim x6 [ ]
+    event_shows Rattle.laws.specs.Rows.creators x7 = elim x7 [ ]
+    event_shows outputs x8 = elim x8 [ ]
+    event_shows Rattle.laws.specs.Rows.slots x9 = elim x9 [ ]
+    event_shows Rattle.laws.specs.Rows.links x10 = elim x10 [ ]
+    event_shows Rattle.laws.specs.Rows.one_link x11 = elim x11 [ ]
+    event_shows Rattle.laws.specs.Rows.states x12 = elim x12 [ ]
+    event_shows Rattle.laws.specs.Rows.blocks x13 = elim x13 [ ]
+    event_shows Rattle.laws.specs.Rows.compatible x14 = elim x14 [ ]
+    event_shows Rattle.laws.specs.Rows.dropped x15 = elim x15 [ ]
+    event_shows Rattle.laws.specs.Rows.free_slots x16 = elim x16 [ ]
+    event_shows Rattle.laws.specs.Rows.free_links x17 = elim x17 [ ]
+    event_shows Rattle.laws.specs.Rows.settled x18 = elim x18 [ ]
 
 -- an event that is no task's output
 made-event : (s : Session) (ty n : ℕ) → Holds (is_event_type ty) → Holds (is_fitting_count ty n) → (ty ≡ output → ⊥)

@@ -103,6 +103,12 @@ module _ (s : Session) (l : ℕ) (m : Checked (deliver_checks s l)) (r : Sound s
           shows state_low due = rw q (omega arith)
           shows state_high due = rw q (omega arith)
           shows paid due = inr (inl q)
+          shows Rattle.laws.specs.Conjuncts.is_event x3 = elim x3 [ ]
+          shows Rattle.laws.specs.Conjuncts.type_known x4 = elim x4 [ ]
+          shows Rattle.laws.specs.Conjuncts.has_payload x5 = elim x5 [ ]
+          shows Rattle.laws.specs.Conjuncts.tally_high x6 = elim x6 [ ]
+          shows Rattle.laws.specs.Conjuncts.tally_kind x7 = elim x7 [ ]
+          shows Rattle.laws.specs.Conjuncts.count_fits x8 = elim x8 [ ]
 
   -- it is no output event
   goes_outputs : Holds (says outputs s) → Holds (says outputs (expire s l))
@@ -146,6 +152,11 @@ module _ (s : Session) (l : ℕ) (m : Checked (deliver_checks s l)) (r : Sound s
 
       shows : (n : Linked) → DueOf (link_row k) (EventState ∷ []) n → Holds (link_says k n (expire s l))
       shows agreeing due = agreed (state-after s l (s LinkSource k))
+      shows source_made x3 = elim x3 [ ]
+      shows source_event x4 = elim x4 [ ]
+      shows Rattle.laws.specs.Conjuncts.target_made x5 = elim x5 [ ]
+      shows Rattle.laws.specs.Conjuncts.target_kind x6 = elim x6 [ ]
+      shows Rattle.laws.specs.Conjuncts.has_slot_lem x7 = elim x7 [ ]
 
   had_fired_lem : (i : ℕ) → StateAfter s l i → Holds (expire s l EventState i ≐ fired or expire s l EventState i ≐ destroyed_fired)
       → Holds (s EventState i ≐ fired or s EventState i ≐ destroyed_fired)
@@ -167,6 +178,22 @@ expire-sound s l m r = kept_by (settled ∷ []) (expire-writes s l) r shows
     shows latches due = λ i b x. r latches i b (x.0, (x.1.0, had_fired_lem s l m r i (state-after s l i) x.1.1))
     shows counted_events due =
         λ i b x. let y = r counted_events i b x in (y.0, λ q. still-gone s l m r i (state-after s l i) (y.1 q))
+    shows counts x' = elim x' [ ]
+    shows Rattle.laws.specs.Rows.kinds x'' = elim x'' [ ]
+    shows Rattle.laws.specs.Rows.template_parts x3 = elim x3 [ ]
+    shows Rattle.laws.specs.Rows.task_parts x4 = elim x4 [ ]
+    shows Rattle.laws.specs.Rows.block_parts x5 = elim x5 [ ]
+    shows Rattle.laws.specs.Rows.roots x6 = elim x6 [ ]
+    shows Rattle.laws.specs.Rows.creators x7 = elim x7 [ ]
+    shows Rattle.laws.specs.Rows.slots x8 = elim x8 [ ]
+    shows Rattle.laws.specs.Rows.one_link x9 = elim x9 [ ]
+    shows Rattle.laws.specs.Rows.states x10 = elim x10 [ ]
+    shows Rattle.laws.specs.Rows.blocks x11 = elim x11 [ ]
+    shows Rattle.laws.specs.Rows.compatible x12 = elim x12 [ ]
+    shows Rattle.laws.specs.Rows.dropped x13 = elim x13 [ ]
+    shows Rattle.laws.specs.Rows.free_slots x14 = elim x14 [ ]
+    shows Rattle.laws.specs.Rows.free_links x15 = elim x15 [ ]
+    shows settled x16 = elim x16 [ ]
 
 pub expire_keeps : (s : Session) (l : ℕ) → Checked (deliver_checks s l) → Kept s → Kept (expire s l)
 unfolding expire put
@@ -174,6 +201,26 @@ expire_keeps s l m h = all (settled ∷ []) (expire-sound s l m (but (settled �
   where
     again : (n : Name) → Excepted (settled ∷ []) n → Holds (says n (expire s l))
     again settled due = h settled
+    again counts x' = elim x' [ ]
+    again Rattle.laws.specs.Rows.kinds x'' = elim x'' [ ]
+    again Rattle.laws.specs.Rows.template_parts x3 = elim x3 [ ]
+    again Rattle.laws.specs.Rows.task_parts x4 = elim x4 [ ]
+    again event_parts x5 = elim x5 [ ]
+    again Rattle.laws.specs.Rows.block_parts x6 = elim x6 [ ]
+    again Rattle.laws.specs.Rows.roots x7 = elim x7 [ ]
+    again Rattle.laws.specs.Rows.creators x8 = elim x8 [ ]
+    again outputs x9 = elim x9 [ ]
+    again Rattle.laws.specs.Rows.slots x10 = elim x10 [ ]
+    again links x11 = elim x11 [ ]
+    again Rattle.laws.specs.Rows.one_link x12 = elim x12 [ ]
+    again Rattle.laws.specs.Rows.states x13 = elim x13 [ ]
+    again Rattle.laws.specs.Rows.blocks x14 = elim x14 [ ]
+    again Rattle.laws.specs.Rows.compatible x15 = elim x15 [ ]
+    again latches x16 = elim x16 [ ]
+    again counted_events x17 = elim x17 [ ]
+    again Rattle.laws.specs.Rows.dropped x18 = elim x18 [ ]
+    again Rattle.laws.specs.Rows.free_slots x19 = elim x19 [ ]
+    again Rattle.laws.specs.Rows.free_links x20 = elim x20 [ ]
 
 -- what a delivery asks of a session, it asks of one in which the link's source has gone
 pub still-checked : (s : Session) (l : ℕ) → Checked (deliver_checks s l) → Checked (deliver_checks (expire s l) l)

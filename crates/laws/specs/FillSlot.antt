@@ -160,6 +160,14 @@ module _ (s : Session) (t j p : ℕ) (v : Vacant s t j p) (a : Apart s t j) wher
       shows : (n : Root) → DueOf root_row slot_fields n → Holds (root_says n after)
       shows main_mark due = let m = still_marked (at 2 0) (c main_mark) in rw m.0 (c main_mark)
       shows main_payload due = let m = still_marked (at 2 0) (c main_mark) in m.1 ∙ c main_payload
+      shows Rattle.laws.specs.Conjuncts.first_block x' = elim x' [ ]
+      shows Rattle.laws.specs.Conjuncts.first_creator x'' = elim x'' [ ]
+      shows Rattle.laws.specs.Conjuncts.main_task x3 = elim x3 [ ]
+      shows Rattle.laws.specs.Conjuncts.main_creator x4 = elim x4 [ ]
+      shows Rattle.laws.specs.Conjuncts.main_slots x5 = elim x5 [ ]
+      shows Rattle.laws.specs.Conjuncts.main_finish x6 = elim x6 [ ]
+      shows Rattle.laws.specs.Conjuncts.main_output x7 = elim x7 [ ]
+      shows Rattle.laws.specs.Conjuncts.main_mode x8 = elim x8 [ ]
 
   still-holds : (b : ℕ) → Holds (is_held s b) → Holds (is_held after b)
   unfolding satisfy_slot put
@@ -222,7 +230,7 @@ module _ (s : Session) (t j p : ℕ) (v : Vacant s t j p) (a : Apart s t j) wher
   move-slot h k (inr x) = inr x
   move-slot h k (inl (i, (m, inl x))) = inl (i, (m, inl x))
   move-slot h k (inl (i, (m, inr x))) =
-      inl (i, (m, inr (claimed_lasts h k (outside_put t (next s t j p) (outside_same s)) x shows)))
+      inl (i, (m, inr (claimed_lasts h k (outside_put {f = TaskState} t (next s t j p) (outside_same s)) x shows)))
     where
       lasting : Holds (claimed_says h k awaits s) → Holds (claimed_says h k awaits (move s t (next s t j p)))
       lasting (inl e) = inl (runs_on task_destroyed (omega arith) h e)
@@ -230,6 +238,12 @@ module _ (s : Session) (t j p : ℕ) (v : Vacant s t j p) (a : Apart s t j) wher
 
       shows : (n : Claimed) → DueOf (claimed_row h k) (TaskState ∷ []) n → Holds (claimed_says h k n (move s t (next s t j p)))
       shows awaits due = lasting (claimed_by_name h k s x awaits)
+      shows mode_low x6 = elim x6 [ ]
+      shows mode_high x7 = elim x7 [ ]
+      shows mark_high x8 = elim x8 [ ]
+      shows payload x9 = elim x9 [ ]
+      shows empty x10 = elim x10 [ ]
+      shows brought x11 = elim x11 [ ]
 
   fill_elsewhere : (h k : ℕ) → k < 16 → (t ≡ h → j ≡ k → ⊥) → Holds (slot s h k) → Holds (slot after h k)
   unfolding satisfy_slot put
@@ -316,6 +330,18 @@ module _ (s : Session) (t j p : ℕ) (v : Vacant s t j p) (a : Apart s t j) wher
   shows compatible due = fill_compatible
   shows free_slots due = λ i l g k b. fill_none i g k b (a.others free_slots i l g k b)
   shows settled due = fill_settled
+  shows counts x' = elim x' [ ]
+  shows Rattle.laws.specs.Rows.kinds x'' = elim x'' [ ]
+  shows Rattle.laws.specs.Rows.template_parts x3 = elim x3 [ ]
+  shows Rattle.laws.specs.Rows.event_parts x4 = elim x4 [ ]
+  shows Rattle.laws.specs.Rows.block_parts x5 = elim x5 [ ]
+  shows slots x6 = elim x6 [ ]
+  shows Rattle.laws.specs.Rows.links x7 = elim x7 [ ]
+  shows Rattle.laws.specs.Rows.one_link x8 = elim x8 [ ]
+  shows Rattle.laws.specs.Rows.latches x9 = elim x9 [ ]
+  shows Rattle.laws.specs.Rows.counted_events x10 = elim x10 [ ]
+  shows Rattle.laws.specs.Rows.dropped x11 = elim x11 [ ]
+  shows Rattle.laws.specs.Rows.free_links x12 = elim x12 [ ]
 
   -- all rules hold again
   pub fill_keeps : Kept after

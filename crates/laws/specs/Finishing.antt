@@ -154,3 +154,23 @@ module _ (s : Session) where
     where
       again : (n : Name) → Excepted (outputs ∷ []) n → Holds (says n (fire_finished s))
       again outputs due = finishing_outputs x
+      again Rattle.laws.specs.Rows.counts x'' = elim x'' [ ]
+      again Rattle.laws.specs.Rows.kinds x3 = elim x3 [ ]
+      again Rattle.laws.specs.Rows.template_parts x4 = elim x4 [ ]
+      again Rattle.laws.specs.Rows.task_parts x5 = elim x5 [ ]
+      again Rattle.laws.specs.Rows.event_parts x6 = elim x6 [ ]
+      again Rattle.laws.specs.Rows.block_parts x7 = elim x7 [ ]
+      again Rattle.laws.specs.Rows.roots x8 = elim x8 [ ]
+      again Rattle.laws.specs.Rows.creators x9 = elim x9 [ ]
+      again Rattle.laws.specs.Rows.slots x10 = elim x10 [ ]
+      again Rattle.laws.specs.Rows.links x11 = elim x11 [ ]
+      again Rattle.laws.specs.Rows.one_link x12 = elim x12 [ ]
+      again Rattle.laws.specs.Rows.states x13 = elim x13 [ ]
+      again Rattle.laws.specs.Rows.blocks x14 = elim x14 [ ]
+      again Rattle.laws.specs.Rows.compatible x15 = elim x15 [ ]
+      again Rattle.laws.specs.Rows.latches x16 = elim x16 [ ]
+      again Rattle.laws.specs.Rows.counted_events x17 = elim x17 [ ]
+      again Rattle.laws.specs.Rows.dropped x18 = elim x18 [ ]
+      again Rattle.laws.specs.Rows.free_slots x19 = elim x19 [ ]
+      again Rattle.laws.specs.Rows.free_links x20 = elim x20 [ ]
+      again Rattle.laws.specs.Rows.settled x21 = elim x21 [ ]

@@ -116,6 +116,11 @@ module _ (s : Session) (fires : ℕ → Formula) (payload : ℕ → ℕ) (may : 
           shows state_high due = omega arith
           shows has_payload due = rw p (may h f).2
           shows paid due = inl e
+          shows Rattle.laws.specs.Conjuncts.is_event x3 = elim x3 [ ]
+          shows Rattle.laws.specs.Conjuncts.type_known x4 = elim x4 [ ]
+          shows Rattle.laws.specs.Conjuncts.tally_high x5 = elim x5 [ ]
+          shows Rattle.laws.specs.Conjuncts.tally_kind x6 = elim x6 [ ]
+          shows Rattle.laws.specs.Conjuncts.count_fits x7 = elim x7 [ ]
 
   fire-latch : (e : ℕ) → s EventType e ≡ latch → (Holds (had_fired (s EventState e)) → s EventTally e ≡ even_tally)
       → Holds (had_fired (fire s fires payload EventState e)) → s EventTally e ≡ even_tally

@@ -249,6 +249,17 @@ module _ (s : Session) (t : ℕ) (c : Checked (grant_checks s t)) (r : Kept s) w
   shows compatible due = grant-compatible
   shows free_slots due = λ h l p j b. marked-no_slot marking (at h j) (r free_slots h l p j b)
   shows settled due = marked-settled marking r
+  shows counts x' = elim x' [ ]
+  shows Rattle.laws.specs.Rows.kinds x'' = elim x'' [ ]
+  shows Rattle.laws.specs.Rows.template_parts x3 = elim x3 [ ]
+  shows Rattle.laws.specs.Rows.event_parts x4 = elim x4 [ ]
+  shows Rattle.laws.specs.Rows.block_parts x5 = elim x5 [ ]
+  shows Rattle.laws.specs.Rows.links x6 = elim x6 [ ]
+  shows Rattle.laws.specs.Rows.one_link x7 = elim x7 [ ]
+  shows Rattle.laws.specs.Rows.latches x8 = elim x8 [ ]
+  shows Rattle.laws.specs.Rows.counted_events x9 = elim x9 [ ]
+  shows Rattle.laws.specs.Rows.dropped x10 = elim x10 [ ]
+  shows Rattle.laws.specs.Rows.free_links x11 = elim x11 [ ]
 
 pub grant_keeps : (s : Session) (t : ℕ) → Checked (grant_checks s t) → Kept s → Kept (grant s t)
 grant_keeps s t c h = kept_by [] (grant-writes s t) h (shows s t c h)

@@ -55,12 +55,12 @@ apart f k b e d = go (same f k) refl b e d
     go true x b e d = absurd (differ b (sym e ∙ ap part (same_eq f k (rw x tt)) ∙ d))
 
 -- an object's words elsewhere are as they were
-pub built_old : {s g : Session} {h : ℕ} → Built s h g → (f : Field) → part f ≡ true → (i : ℕ) → (h ≡ i → ⊥) → g f i ≡ s f i
+pub built_old : {s : Session} {h : ℕ} {g : Session} → Built s h g → (f : Field) → part f ≡ true → (i : ℕ) → (h ≡ i → ⊥) → g f i ≡ s f i
 built_old {s = s} {h = h} counted f p i n = put_beside s Objects f 0 i h (apart Objects f false refl p)
 built_old {h = h} (written r k v q b) f p i n = put_away r k f h i v n ∙ built_old b f p i n
 
 -- fields that are no objects' words are as they were, but for the count
-built_beside : {s g : Session} {h : ℕ} → Built s h g → (f : Field) → part f ≡ false → (i : ℕ) → g f i ≡ put s Objects 0 h f i
+built_beside : {s : Session} {h : ℕ} {g : Session} → Built s h g → (f : Field) → part f ≡ false → (i : ℕ) → g f i ≡ put s Objects 0 h f i
 built_beside counted f p i = refl
 built_beside {h = h} (written r k v q b) f p i = put_beside r k f h i v (apart k f true q p) ∙ built_beside b f p i
 

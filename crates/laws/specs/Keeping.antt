@@ -44,6 +44,7 @@ due_held s ws xs h n d = go (excepted n xs) d (h n)
   where
     go : (x : Bool) → Shown (pick x false (meets ws (row n).reads)) → pick x (Unit {0}) (Holds (says n s)) → Holds (says n s)
     go false d h = h
+    go true d h = elim d [ ]
 
 -- some rules fewer
 pub but : {s : Session} (xs : List Name) → But [] s → But xs s

@@ -160,6 +160,8 @@ module _ (s : Session) (t : ℕ) (which : ℕ → Formula) where
           shows state_low due = low (v state_low) (block-after b)
           shows state_high due = high (v state_high) (block-after b)
           shows held_flag_lem due = flag (v held_flag_lem) (held_after b)
+          shows Rattle.laws.specs.Conjuncts.is_block x3 = elim x3 [ ]
+          shows Rattle.laws.specs.Conjuncts.has_creator x4 = elim x4 [ ]
 
   module _ (run : Holds (is_running s t)) (r : Kept s) where
     let_go-state : (h : ℕ) → h < s Objects 0 + 1 → Holds (state s h) → Holds (state (let_go s t which) h)
@@ -217,6 +219,19 @@ module _ (s : Session) (t : ℕ) (which : ℕ → Formula) where
         (λ k b y. x.0 k b (was-held k y.0, y.1), λ y. x.1 (was_held_made (s SlotPayload i) y.0, y.1))
     shows free_slots due = λ h l p j b. marked-no_slot letting_go (at h j) (r free_slots h l p j b)
     shows settled due = marked-settled letting_go r
+    shows counts x' = elim x' [ ]
+    shows Rattle.laws.specs.Rows.kinds x'' = elim x'' [ ]
+    shows Rattle.laws.specs.Rows.template_parts x3 = elim x3 [ ]
+    shows task_parts x4 = elim x4 [ ]
+    shows Rattle.laws.specs.Rows.event_parts x5 = elim x5 [ ]
+    shows Rattle.laws.specs.Rows.creators x6 = elim x6 [ ]
+    shows Rattle.laws.specs.Rows.outputs x7 = elim x7 [ ]
+    shows Rattle.laws.specs.Rows.links x8 = elim x8 [ ]
+    shows Rattle.laws.specs.Rows.one_link x9 = elim x9 [ ]
+    shows Rattle.laws.specs.Rows.latches x10 = elim x10 [ ]
+    shows Rattle.laws.specs.Rows.counted_events x11 = elim x11 [ ]
+    shows Rattle.laws.specs.Rows.dropped x12 = elim x12 [ ]
+    shows Rattle.laws.specs.Rows.free_links x13 = elim x13 [ ]
 
     pub let_go_keeps : Kept (let_go s t which)
     let_go_keeps = kept_by [] (let_go-writes s t which) r shows

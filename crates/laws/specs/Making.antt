@@ -108,6 +108,13 @@ module _ {s g : Session} {k : Sort} (b : Born s g k) (h : But (outputs ∷ []) s
       shows : (m : Event) → DueOf (event_row i) (Objects ∷ Kind ∷ []) m → Holds (event_says i m recounted)
       shows is_event due = else b Kind refl i n ∙ x.0
       shows has_payload due = payload_stays (s EventPayload i) (event_by_name i s x.0 (inl x) has_payload)
+      shows Rattle.laws.specs.Conjuncts.state_low x3 = elim x3 [ ]
+      shows Rattle.laws.specs.Conjuncts.state_high x4 = elim x4 [ ]
+      shows Rattle.laws.specs.Conjuncts.type_known x5 = elim x5 [ ]
+      shows Rattle.laws.specs.Conjuncts.paid x6 = elim x6 [ ]
+      shows Rattle.laws.specs.Conjuncts.tally_high x7 = elim x7 [ ]
+      shows Rattle.laws.specs.Conjuncts.tally_kind x8 = elim x8 [ ]
+      shows Rattle.laws.specs.Conjuncts.count_fits x9 = elim x9 [ ]
 
   old_block : (i : ℕ) → (next s ≡ i → ⊥) → Holds (block_part s i) → Holds (block_part (grown s g) i)
   old_block i n (inr x) =
@@ -121,6 +128,9 @@ module _ {s g : Session} {k : Sort} (b : Born s g k) (h : But (outputs ∷ []) s
       shows : (m : Block) → DueOf (block_row i) (Objects ∷ Kind ∷ []) m → Holds (block_says i m recounted)
       shows is_block due = else b Kind refl i n ∙ x.0
       shows has_creator due = or_map (kind_stays task (s BlockCreator i)) (block_by_name i s x.0 (inl x) has_creator)
+      shows Rattle.laws.specs.Conjuncts.state_low x3 = elim x3 [ ]
+      shows Rattle.laws.specs.Conjuncts.state_high x4 = elim x4 [ ]
+      shows Rattle.laws.specs.Conjuncts.held_flag_lem x5 = elim x5 [ ]
 
   old_creator : (i : ℕ) → i ≤ s Objects 0 → Holds (creator s i) → Holds (creator (grown s g) i)
   old_creator i l (inl e) = inl e
@@ -177,6 +187,23 @@ module _ {s g : Session} {k : Sort} (b : Born s g k) (h : But (outputs ∷ []) s
   elsewhere creators due i n l x =
       λ e. let m : i ≤ s Objects 0 = omega arith in old_creator i m (x (sym (was b Kind refl i m) ∙ e))
   elsewhere blocks due i n l x = old_hold i l x
+  elsewhere counts x5 i n l x = elim x5 [ ]
+  elsewhere kinds x6 i n l x = elim x6 [ ]
+  elsewhere Rattle.laws.specs.Rows.template_parts x7 i n l x = elim x7 [ ]
+  elsewhere Rattle.laws.specs.Rows.task_parts x8 i n l x = elim x8 [ ]
+  elsewhere roots x9 i n l x = elim x9 [ ]
+  elsewhere outputs x10 i n l x = elim x10 [ ]
+  elsewhere slots x11 i n l x = elim x11 [ ]
+  elsewhere links x12 i n l x = elim x12 [ ]
+  elsewhere one_link x13 i n l x = elim x13 [ ]
+  elsewhere Rattle.laws.specs.Rows.states x14 i n l x = elim x14 [ ]
+  elsewhere compatible x15 i n l x = elim x15 [ ]
+  elsewhere Rattle.laws.specs.Rows.latches x16 i n l x = elim x16 [ ]
+  elsewhere Rattle.laws.specs.Rows.counted_events x17 i n l x = elim x17 [ ]
+  elsewhere Rattle.laws.specs.Rows.dropped x18 i n l x = elim x18 [ ]
+  elsewhere free_slots x19 i n l x = elim x19 [ ]
+  elsewhere free_links x20 i n l x = elim x20 [ ]
+  elsewhere Rattle.laws.specs.Rows.settled x21 i n l x = elim x21 [ ]
 
   grown-kinds : Holds (says kinds (grown s g))
   grown-kinds = (
@@ -214,6 +241,10 @@ module _ {s g : Session} {k : Sort} (b : Born s g k) (h : But (outputs ∷ []) s
       shows payload due = payload_stays (s SlotPayload (at i j)) (v payload)
       shows waits due = rw (was b TaskState refl i l) (v waits)
       shows brought due = λ q e m z. v brought q e m z ∙ sym (was b EventPayload refl (s LinkSource e) (ends_old e m).0)
+      shows Rattle.laws.specs.Conjuncts.mode_low x'' = elim x'' [ ]
+      shows Rattle.laws.specs.Conjuncts.mode_high x3 = elim x3 [ ]
+      shows Rattle.laws.specs.Conjuncts.mark_high x4 = elim x4 [ ]
+      shows Rattle.laws.specs.Conjuncts.empty x5 = elim x5 [ ]
 
   old_slot : (i j : ℕ) → i ≤ s Objects 0 → Holds (slot s i j) → Holds (slot (grown s g) i j)
   old_slot i j l (inl x) =
@@ -289,6 +320,19 @@ module _ {s g : Session} {k : Sort} (b : Born s g k) (h : But (outputs ∷ []) s
   beside one_link due = λ l m e n q. h one_link l m e n (sym (was b Kind refl (s LinkTarget l) (ends_old l m).1) ∙ q)
   beside compatible due = grown-compatible
   beside free_slots due = λ i m l. h free_slots i m (omega arith)
+  beside Rattle.laws.specs.Rows.template_parts x' = elim x' [ ]
+  beside Rattle.laws.specs.Rows.task_parts x'' = elim x'' [ ]
+  beside event_parts x3 = elim x3 [ ]
+  beside block_parts x4 = elim x4 [ ]
+  beside creators x5 = elim x5 [ ]
+  beside outputs x6 = elim x6 [ ]
+  beside Rattle.laws.specs.Rows.states x7 = elim x7 [ ]
+  beside blocks x8 = elim x8 [ ]
+  beside Rattle.laws.specs.Rows.latches x9 = elim x9 [ ]
+  beside Rattle.laws.specs.Rows.counted_events x10 = elim x10 [ ]
+  beside Rattle.laws.specs.Rows.dropped x11 = elim x11 [ ]
+  beside free_links x12 = elim x12 [ ]
+  beside Rattle.laws.specs.Rows.settled x13 = elim x13 [ ]
 
   pub made_keeps : ((n : Name) → New k n → Holds (says_of n g (next s))) → But (outputs ∷ []) g
   made_keeps new = subst (But (outputs ∷ [])) (built_grown s g b.built) (kept_by (outputs ∷ []) (grown-writes s g) h shows)

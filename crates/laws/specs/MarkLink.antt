@@ -81,6 +81,11 @@ module _ (s : Session) (l : ℕ) (low : 1 ≤ l) (high : l ≤ s Links 0) (was :
                   ),
                 ),
               )
+          shows Rattle.laws.specs.Conjuncts.source_made x3 = elim x3 [ ]
+          shows Rattle.laws.specs.Conjuncts.source_event x4 = elim x4 [ ]
+          shows Rattle.laws.specs.Conjuncts.target_made x5 = elim x5 [ ]
+          shows Rattle.laws.specs.Conjuncts.target_kind x6 = elim x6 [ ]
+          shows Rattle.laws.specs.Conjuncts.has_slot_lem x7 = elim x7 [ ]
 
       go : Places l i → i ≡ 0 ⊎ Holds (is_link s i) → i ≡ 0 ⊎ Holds (is_link (handed s l) i)
       go p (inl z) = inl z
@@ -110,6 +115,11 @@ module _ (s : Session) (l : ℕ) (low : 1 ≤ l) (high : l ≤ s Links 0) (was :
         shows : (n : Claimed) → DueOf (claimed_row t j) (LinkState ∷ []) n → Holds (claimed_says t j n (handed s l))
         shows waits due = waiting (c waits)
         shows brought due = λ m i b o. c brought m i b (o.0, sym (beside i o.0) ∙ o.1)
+        shows Rattle.laws.specs.Conjuncts.mode_low x'' = elim x'' [ ]
+        shows Rattle.laws.specs.Conjuncts.mode_high x3 = elim x3 [ ]
+        shows Rattle.laws.specs.Conjuncts.mark_high x4 = elim x4 [ ]
+        shows Rattle.laws.specs.Conjuncts.payload x5 = elim x5 [ ]
+        shows Rattle.laws.specs.Conjuncts.empty x6 = elim x6 [ ]
 
     mark-slot : Holds (slot s t j) → Holds (slot (handed s l) t j)
     unfolding put
@@ -171,6 +181,22 @@ module _ (s : Session) (l : ℕ) (low : 1 ≤ l) (high : l ≤ s Links 0) (was :
   shows free_links due =
       (mark-no_link 0 (λ e. omega arith) (h free_links).0, λ i b m. mark-no_link i (λ e. omega arith) ((h free_links).1 i b m))
   shows settled due = λ t b k m y x. h settled t b k m y (was-pending t k x)
+  shows Rattle.laws.specs.Rows.counts x' = elim x' [ ]
+  shows Rattle.laws.specs.Rows.kinds x'' = elim x'' [ ]
+  shows Rattle.laws.specs.Rows.template_parts x3 = elim x3 [ ]
+  shows Rattle.laws.specs.Rows.task_parts x4 = elim x4 [ ]
+  shows Rattle.laws.specs.Rows.event_parts x5 = elim x5 [ ]
+  shows Rattle.laws.specs.Rows.block_parts x6 = elim x6 [ ]
+  shows Rattle.laws.specs.Rows.roots x7 = elim x7 [ ]
+  shows Rattle.laws.specs.Rows.creators x8 = elim x8 [ ]
+  shows Rattle.laws.specs.Rows.outputs x9 = elim x9 [ ]
+  shows slots x10 = elim x10 [ ]
+  shows Rattle.laws.specs.Rows.one_link x11 = elim x11 [ ]
+  shows Rattle.laws.specs.Rows.states x12 = elim x12 [ ]
+  shows Rattle.laws.specs.Rows.blocks x13 = elim x13 [ ]
+  shows Rattle.laws.specs.Rows.compatible x14 = elim x14 [ ]
+  shows Rattle.laws.specs.Rows.latches x15 = elim x15 [ ]
+  shows Rattle.laws.specs.Rows.free_slots x16 = elim x16 [ ]
 
   pub mark_apart : Apart (handed s l) (s LinkTarget l) (s LinkSlot l)
   unfolding put

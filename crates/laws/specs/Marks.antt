@@ -76,6 +76,15 @@ module _ {s : Session} {m ts : ℕ → ℕ} (k : Marking s m ts) where
     where
       shows : (n : Root) → DueOf root_row fields n → Holds (root_says n (marked s m ts))
       shows main_mark due = some_stays (at 2 0) (roots_by_name s h main_mark)
+      shows Rattle.laws.specs.Conjuncts.first_block x' = elim x' [ ]
+      shows Rattle.laws.specs.Conjuncts.first_creator x'' = elim x'' [ ]
+      shows Rattle.laws.specs.Conjuncts.main_task x3 = elim x3 [ ]
+      shows Rattle.laws.specs.Conjuncts.main_creator x4 = elim x4 [ ]
+      shows Rattle.laws.specs.Conjuncts.main_slots x5 = elim x5 [ ]
+      shows Rattle.laws.specs.Conjuncts.main_finish x6 = elim x6 [ ]
+      shows Rattle.laws.specs.Conjuncts.main_output x7 = elim x7 [ ]
+      shows Rattle.laws.specs.Conjuncts.main_mode x8 = elim x8 [ ]
+      shows Rattle.laws.specs.Conjuncts.main_payload x9 = elim x9 [ ]
 
   pub marked-no_slot : (i : ℕ) → Holds (no_slot s i) → Holds (no_slot (marked s m ts) i)
   unfolding change
@@ -100,6 +109,9 @@ module _ {s : Session} {m ts : ℕ → ℕ} (k : Marking s m ts) where
       shows empty due = λ e. c empty (k.zero_was i e)
       shows waits due = waiting (c waits)
       shows brought due = λ l. c brought (some_was i (c empty) l)
+      shows Rattle.laws.specs.Conjuncts.mode_low x'' = elim x'' [ ]
+      shows Rattle.laws.specs.Conjuncts.mode_high x3 = elim x3 [ ]
+      shows Rattle.laws.specs.Conjuncts.payload x4 = elim x4 [ ]
 
   marked-slot : (h j : ℕ) → Holds (slot s h j) → Holds (slot (marked s m ts) h j)
   unfolding change

@@ -48,6 +48,10 @@ module _ (s : Session) (t v : ℕ) (kind : s Kind t ≡ task) (some : 1 ≤ v) (
           shows : (n : Task) → DueOf (task_row i) (TaskState ∷ []) n → Holds (task_says i n (move s t v))
           shows state_low due = rw e some
           shows state_high due = rw e high
+          shows Rattle.laws.specs.Conjuncts.is_task x3 = elim x3 [ ]
+          shows Rattle.laws.specs.Conjuncts.few_slots x4 = elim x4 [ ]
+          shows Rattle.laws.specs.Conjuncts.finish_flag x5 = elim x5 [ ]
+          shows Rattle.laws.specs.Conjuncts.output_flag x6 = elim x6 [ ]
 
 -- where no task comes to live, none becomes busy
 pub move-busy : (s : Session) (t v : ℕ) → ((i : ℕ) → move s t v TaskState i ≤ running → s TaskState i ≤ running)
@@ -135,6 +139,10 @@ module _ (s : Session) (t v : ℕ) (kind : s Kind t ≡ task) (was : s TaskState
         λ e. still task_destroyed (omega arith) i ((o goes_with).0 e),
         λ e. (o goes_with).1 (stood task_destroyed (omega arith) i e),
       )
+      shows Rattle.laws.specs.Conjuncts.output_made x'' = elim x'' [ ]
+      shows Rattle.laws.specs.Conjuncts.output_event x3 = elim x3 [ ]
+      shows Rattle.laws.specs.Conjuncts.output_type x4 = elim x4 [ ]
+      shows Rattle.laws.specs.Conjuncts.stands x5 = elim x5 [ ]
 
   pub move-outputs : Holds (outputs s) → Holds (outputs (move s t v))
   unfolding put

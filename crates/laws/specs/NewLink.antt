@@ -188,6 +188,11 @@ module _ (s : Session) (source d j : ℕ) (c : Linkable s source d j) (p : Spot 
             let w = was_led h k i n l o.0 in
             claimed_by_name h k s x brought m i w.below (w.leads, sym w.state-same ∙ o.1)
             ∙ ap (s EventPayload) (sym w.source_same)
+        shows mode_low x'' = elim x'' [ ]
+        shows mode_high x3 = elim x3 [ ]
+        shows mark_high x4 = elim x4 [ ]
+        shows payload x5 = elim x5 [ ]
+        shows empty x6 = elim x6 [ ]
 
     new-unclaimed : Holds (unclaimed s h k) → Holds (unclaimed after h k)
     unfolding new_link put
@@ -354,6 +359,20 @@ module _ (s : Session) (source d j : ℕ) (c : Linkable s source d j) (p : Spot 
       let h = a.others free_links in
       (new-no_link 0 (λ e. omega arith) h.0, λ i l m. new-no_link i (λ e. omega arith) (h.1 i l (omega arith)))
   shows settled due = new-settled
+  shows Rattle.laws.specs.Rows.kinds x' = elim x' [ ]
+  shows Rattle.laws.specs.Rows.template_parts x'' = elim x'' [ ]
+  shows Rattle.laws.specs.Rows.task_parts x3 = elim x3 [ ]
+  shows Rattle.laws.specs.Rows.event_parts x4 = elim x4 [ ]
+  shows Rattle.laws.specs.Rows.block_parts x5 = elim x5 [ ]
+  shows Rattle.laws.specs.Rows.roots x6 = elim x6 [ ]
+  shows Rattle.laws.specs.Rows.creators x7 = elim x7 [ ]
+  shows Rattle.laws.specs.Rows.outputs x8 = elim x8 [ ]
+  shows slots x9 = elim x9 [ ]
+  shows Rattle.laws.specs.Rows.states x10 = elim x10 [ ]
+  shows Rattle.laws.specs.Rows.blocks x11 = elim x11 [ ]
+  shows Rattle.laws.specs.Rows.compatible x12 = elim x12 [ ]
+  shows Rattle.laws.specs.Rows.latches x13 = elim x13 [ ]
+  shows Rattle.laws.specs.Rows.free_slots x14 = elim x14 [ ]
 
   -- all rules hold again
   pub new_link_keeps : Kept after

@@ -51,13 +51,40 @@ related-handed : (s : Session) (b : Book) (l : ℕ) → l ≤ s Links 0 → Rela
     → Related (handed s l) (enter b Column.Struck l 1)
 unfolding put enter test
 related-handed s b l m r =
-    related_by (outside_put {f = LinkState} _ _ (outside_same s)) (outside_enter _ _ (outside_same b)) r shows
+    related_by (outside_put {f = LinkState} _ _ (outside_same s)) (outside_enter {c = Column.Struck} l 1 (outside_same b)) r shows
   where
     shows : (c : Clause) → Due (LinkState ∷ []) (Column.Struck ∷ []) c → says c (handed s l) (enter b Column.Struck l 1)
     shows struck_agree due =
         λ i a c. marks-entered (λ (w : ℕ). delivered ≤ w) (s LinkState) (b Column.Struck) l delivered 1 (omega arith) refl
         (r struck_agree i a c)
     shows blank_struck due = blank-set l 1 m (r blank_struck)
+    shows Rattle.laws.specs.Relation.same_objects x' = elim x' [ ]
+    shows Rattle.laws.specs.Relation.same_links x'' = elim x'' [ ]
+    shows same_kinds x3 = elim x3 [ ]
+    shows same_types x4 = elim x4 [ ]
+    shows Rattle.laws.specs.Relation.same_makers x5 = elim x5 [ ]
+    shows Rattle.laws.specs.Relation.same_finishes x6 = elim x6 [ ]
+    shows Rattle.laws.specs.Relation.same_outputs x7 = elim x7 [ ]
+    shows same_sources x8 = elim x8 [ ]
+    shows same_targets x9 = elim x9 [ ]
+    shows same_slots x10 = elim x10 [ ]
+    shows Rattle.laws.specs.Relation.task_counts x11 = elim x11 [ ]
+    shows Rattle.laws.specs.Relation.template_counts x12 = elim x12 [ ]
+    shows Rattle.laws.specs.Relation.slots_agree x13 = elim x13 [ ]
+    shows Rattle.laws.specs.Relation.ended_agree x14 = elim x14 [ ]
+    shows Rattle.laws.specs.Relation.starts_agree x15 = elim x15 [ ]
+    shows Rattle.laws.specs.Relation.tasks_destroyed x16 = elim x16 [ ]
+    shows Rattle.laws.specs.Relation.blocks_destroyed x17 = elim x17 [ ]
+    shows fired_has x18 = elim x18 [ ]
+    shows open_has x19 = elim x19 [ ]
+    shows satisfied_agree x20 = elim x20 [ ]
+    shows Rattle.laws.specs.Relation.blank_kinds x21 = elim x21 [ ]
+    shows Rattle.laws.specs.Relation.blank_times x22 = elim x22 [ ]
+    shows blank_satisfied x23 = elim x23 [ ]
+    shows blank_has x24 = elim x24 [ ]
+    shows Rattle.laws.specs.Relation.blank_starts x25 = elim x25 [ ]
+    shows Rattle.laws.specs.Relation.blank_ended x26 = elim x26 [ ]
+    shows Rattle.laws.specs.Relation.blank_destroyed x27 = elim x27 [ ]
 
 -- the dropped count is no part of the book
 related-thrown : (s : Session) (b : Book) (l : ℕ) → Related (handed s l) b → Related (thrown s l) b
@@ -72,7 +99,7 @@ module _ (s : Session) (b : Book) (d j p : ℕ) (made : d ≤ s Objects 0) (kind
   -- the book takes a first payload of an event that was destroyed unfired
   related-late : s EventState d ≡ destroyed_unfired → Related s (enter (enter b Column.Satisfied d 1) Column.Has d p)
   unfolding enter test
-  related-late gone = related_by (outside_same s) (outside_enter _ _ (outside_enter _ _ (outside_same b))) r shows
+  related-late gone = related_by (outside_same s) (outside_enter {c = Column.Has} d p (outside_enter {c = Column.Satisfied} d 1 (outside_same b))) r shows
     where
       not_open : (e : ℕ) → s EventState e ≡ event_open → d ≡ e → ⊥
       not_open e o q = let z : s EventState e ≡ destroyed_unfired = rw (← q) gone in omega arith
@@ -92,6 +119,30 @@ module _ (s : Session) (b : Book) (d j p : ℕ) (made : d ≤ s Objects 0) (kind
           )
       shows blank_satisfied due = blank-set d 1 made (r blank_satisfied)
       shows blank_has due = blank-set d p made (r blank_has)
+      shows Rattle.laws.specs.Relation.same_objects x' = elim x' [ ]
+      shows Rattle.laws.specs.Relation.same_links x'' = elim x'' [ ]
+      shows same_kinds x3 = elim x3 [ ]
+      shows same_types x4 = elim x4 [ ]
+      shows Rattle.laws.specs.Relation.same_makers x5 = elim x5 [ ]
+      shows Rattle.laws.specs.Relation.same_finishes x6 = elim x6 [ ]
+      shows Rattle.laws.specs.Relation.same_outputs x7 = elim x7 [ ]
+      shows same_sources x8 = elim x8 [ ]
+      shows same_targets x9 = elim x9 [ ]
+      shows same_slots x10 = elim x10 [ ]
+      shows Rattle.laws.specs.Relation.task_counts x11 = elim x11 [ ]
+      shows Rattle.laws.specs.Relation.template_counts x12 = elim x12 [ ]
+      shows Rattle.laws.specs.Relation.slots_agree x13 = elim x13 [ ]
+      shows Rattle.laws.specs.Relation.ended_agree x14 = elim x14 [ ]
+      shows Rattle.laws.specs.Relation.starts_agree x15 = elim x15 [ ]
+      shows Rattle.laws.specs.Relation.tasks_destroyed x16 = elim x16 [ ]
+      shows Rattle.laws.specs.Relation.blocks_destroyed x17 = elim x17 [ ]
+      shows struck_agree x18 = elim x18 [ ]
+      shows Rattle.laws.specs.Relation.blank_kinds x19 = elim x19 [ ]
+      shows Rattle.laws.specs.Relation.blank_times x20 = elim x20 [ ]
+      shows Rattle.laws.specs.Relation.blank_starts x21 = elim x21 [ ]
+      shows Rattle.laws.specs.Relation.blank_ended x22 = elim x22 [ ]
+      shows Rattle.laws.specs.Relation.blank_destroyed x23 = elim x23 [ ]
+      shows blank_struck x24 = elim x24 [ ]
 
   related_lost : Loses s d → Related s (satisfies b d j p)
   related_lost why = go (book-satisfied b d j p (λ e. let q = r same_kinds d in omega arith)) why
@@ -272,6 +323,32 @@ related-expire s b l c x r = related_by (expire-writes s l) (outside_same b) r s
     shows satisfied_agree due =
         λ e t. let y = r satisfied_agree e t in
         (λ o. y.0 (still_open e (state-after s l e) o), λ f. y.1 (had_fired_lem e (state-after s l e) f))
+    shows Rattle.laws.specs.Relation.same_objects x'' = elim x'' [ ]
+    shows Rattle.laws.specs.Relation.same_links x3 = elim x3 [ ]
+    shows same_kinds x4 = elim x4 [ ]
+    shows same_types x5 = elim x5 [ ]
+    shows Rattle.laws.specs.Relation.same_makers x6 = elim x6 [ ]
+    shows Rattle.laws.specs.Relation.same_finishes x7 = elim x7 [ ]
+    shows Rattle.laws.specs.Relation.same_outputs x8 = elim x8 [ ]
+    shows same_sources x9 = elim x9 [ ]
+    shows same_targets x10 = elim x10 [ ]
+    shows same_slots x11 = elim x11 [ ]
+    shows Rattle.laws.specs.Relation.task_counts x12 = elim x12 [ ]
+    shows Rattle.laws.specs.Relation.template_counts x13 = elim x13 [ ]
+    shows Rattle.laws.specs.Relation.slots_agree x14 = elim x14 [ ]
+    shows Rattle.laws.specs.Relation.ended_agree x15 = elim x15 [ ]
+    shows Rattle.laws.specs.Relation.starts_agree x16 = elim x16 [ ]
+    shows Rattle.laws.specs.Relation.tasks_destroyed x17 = elim x17 [ ]
+    shows Rattle.laws.specs.Relation.blocks_destroyed x18 = elim x18 [ ]
+    shows struck_agree x19 = elim x19 [ ]
+    shows Rattle.laws.specs.Relation.blank_kinds x20 = elim x20 [ ]
+    shows Rattle.laws.specs.Relation.blank_times x21 = elim x21 [ ]
+    shows blank_satisfied x22 = elim x22 [ ]
+    shows blank_has x23 = elim x23 [ ]
+    shows Rattle.laws.specs.Relation.blank_starts x24 = elim x24 [ ]
+    shows Rattle.laws.specs.Relation.blank_ended x25 = elim x25 [ ]
+    shows Rattle.laws.specs.Relation.blank_destroyed x26 = elim x26 [ ]
+    shows blank_struck x27 = elim x27 [ ]
 
 pub related_delivery : (s : Session) (b : Book) (l : ℕ) → Checked (deliver_checks s l) → Holds (kept s) → Related s b
     → Related (deliver s l) (enter_deliver b l)

@@ -106,7 +106,7 @@ related_template_gone : (s : Session) (b : Book) (h : ℕ) → h ≤ s Objects 0
     → Related (put s TemplateState h template_destroyed) (enter b Column.Destroyed h 1)
 unfolding put enter test
 related_template_gone s b h m kind r =
-    related_by (outside_put {f = TemplateState} _ _ (outside_same s)) (outside_enter _ _ (outside_same b)) r shows
+    related_by (outside_put {f = TemplateState} _ _ (outside_same s)) (outside_enter {c = Column.Destroyed} h 1 (outside_same b)) r shows
   where
     shows : (c : Clause) → Due (TemplateState ∷ []) (Column.Destroyed ∷ []) c
         → says c (put s TemplateState h template_destroyed) (enter b Column.Destroyed h 1)
@@ -115,13 +115,39 @@ related_template_gone s b h m kind r =
     shows blocks_destroyed due =
         λ i k. marks_beside (s Kind) (b Column.Destroyed) kind k (λ q. omega arith) (r blocks_destroyed i k)
     shows blank_destroyed due = blank-set h 1 m (r blank_destroyed)
+    shows Rattle.laws.specs.Relation.same_objects x' = elim x' [ ]
+    shows Rattle.laws.specs.Relation.same_links x'' = elim x'' [ ]
+    shows same_kinds x3 = elim x3 [ ]
+    shows same_types x4 = elim x4 [ ]
+    shows Rattle.laws.specs.Relation.same_makers x5 = elim x5 [ ]
+    shows Rattle.laws.specs.Relation.same_finishes x6 = elim x6 [ ]
+    shows same_outputs x7 = elim x7 [ ]
+    shows Rattle.laws.specs.Relation.same_sources x8 = elim x8 [ ]
+    shows Rattle.laws.specs.Relation.same_targets x9 = elim x9 [ ]
+    shows Rattle.laws.specs.Relation.same_slots x10 = elim x10 [ ]
+    shows Rattle.laws.specs.Relation.task_counts x11 = elim x11 [ ]
+    shows Rattle.laws.specs.Relation.template_counts x12 = elim x12 [ ]
+    shows Rattle.laws.specs.Relation.slots_agree x13 = elim x13 [ ]
+    shows Rattle.laws.specs.Relation.ended_agree x14 = elim x14 [ ]
+    shows Rattle.laws.specs.Relation.starts_agree x15 = elim x15 [ ]
+    shows Rattle.laws.specs.Relation.fired_has x16 = elim x16 [ ]
+    shows Rattle.laws.specs.Relation.open_has x17 = elim x17 [ ]
+    shows satisfied_agree x18 = elim x18 [ ]
+    shows Rattle.laws.specs.Relation.struck_agree x19 = elim x19 [ ]
+    shows Rattle.laws.specs.Relation.blank_kinds x20 = elim x20 [ ]
+    shows Rattle.laws.specs.Relation.blank_times x21 = elim x21 [ ]
+    shows Rattle.laws.specs.Relation.blank_satisfied x22 = elim x22 [ ]
+    shows Rattle.laws.specs.Relation.blank_has x23 = elim x23 [ ]
+    shows Rattle.laws.specs.Relation.blank_starts x24 = elim x24 [ ]
+    shows Rattle.laws.specs.Relation.blank_ended x25 = elim x25 [ ]
+    shows Rattle.laws.specs.Relation.blank_struck x26 = elim x26 [ ]
 
 -- a block that is doomed or destroyed
 related_condemned : (s : Session) (b : Book) (h v : ℕ) → h ≤ s Objects 0 → s Kind h ≡ block → doomed ≤ v → Related s b
     → Related (put s BlockState h v) (enter b Column.Destroyed h 1)
 unfolding put enter test
 related_condemned s b h v m kind low r =
-    related_by (outside_put _ _ (outside_same s)) (outside_enter _ _ (outside_same b)) r shows
+    related_by (outside_put {f = BlockState} h v (outside_same s)) (outside_enter {c = Column.Destroyed} h 1 (outside_same b)) r shows
   where
     shows : (c : Clause) → Due (BlockState ∷ []) (Column.Destroyed ∷ []) c
         → says c (put s BlockState h v) (enter b Column.Destroyed h 1)
@@ -130,6 +156,32 @@ related_condemned s b h v m kind low r =
     shows blocks_destroyed due =
         λ i k. marks-entered (λ (w : ℕ). doomed ≤ w) (s BlockState) (b Column.Destroyed) h v 1 low refl (r blocks_destroyed i k)
     shows blank_destroyed due = blank-set h 1 m (r blank_destroyed)
+    shows Rattle.laws.specs.Relation.same_objects x' = elim x' [ ]
+    shows Rattle.laws.specs.Relation.same_links x'' = elim x'' [ ]
+    shows same_kinds x3 = elim x3 [ ]
+    shows same_types x4 = elim x4 [ ]
+    shows Rattle.laws.specs.Relation.same_makers x5 = elim x5 [ ]
+    shows Rattle.laws.specs.Relation.same_finishes x6 = elim x6 [ ]
+    shows same_outputs x7 = elim x7 [ ]
+    shows Rattle.laws.specs.Relation.same_sources x8 = elim x8 [ ]
+    shows Rattle.laws.specs.Relation.same_targets x9 = elim x9 [ ]
+    shows Rattle.laws.specs.Relation.same_slots x10 = elim x10 [ ]
+    shows Rattle.laws.specs.Relation.task_counts x11 = elim x11 [ ]
+    shows Rattle.laws.specs.Relation.template_counts x12 = elim x12 [ ]
+    shows Rattle.laws.specs.Relation.slots_agree x13 = elim x13 [ ]
+    shows Rattle.laws.specs.Relation.ended_agree x14 = elim x14 [ ]
+    shows Rattle.laws.specs.Relation.starts_agree x15 = elim x15 [ ]
+    shows Rattle.laws.specs.Relation.fired_has x16 = elim x16 [ ]
+    shows Rattle.laws.specs.Relation.open_has x17 = elim x17 [ ]
+    shows satisfied_agree x18 = elim x18 [ ]
+    shows Rattle.laws.specs.Relation.struck_agree x19 = elim x19 [ ]
+    shows Rattle.laws.specs.Relation.blank_kinds x20 = elim x20 [ ]
+    shows Rattle.laws.specs.Relation.blank_times x21 = elim x21 [ ]
+    shows Rattle.laws.specs.Relation.blank_satisfied x22 = elim x22 [ ]
+    shows Rattle.laws.specs.Relation.blank_has x23 = elim x23 [ ]
+    shows Rattle.laws.specs.Relation.blank_starts x24 = elim x24 [ ]
+    shows Rattle.laws.specs.Relation.blank_ended x25 = elim x25 [ ]
+    shows Rattle.laws.specs.Relation.blank_struck x26 = elim x26 [ ]
 
 related-destroy_block : (s : Session) (b : Book) (caller h : ℕ) → h ≤ s Objects 0 → s Kind h ≡ block → Related s b
     → Related (destroy_block s caller h) (enter b Column.Destroyed h 1)

@@ -116,7 +116,7 @@ module _ (s : Session) (b : Book) (e : ℕ) (made : e ≤ s Objects 0) (kind : s
   pub related-destroy_event : Related (destroy_event s e) (strike (enter b Column.Destroyed e 1) e)
   unfolding destroy_event put change strike enter test entry
   related-destroy_event =
-      related_by (destroy_event-writes s e) (outside_strike e (outside_enter _ _ (outside_same b))) r shows
+      related_by (destroy_event-writes s e) (outside_strike e (outside_enter {c = Column.Destroyed} e 1 (outside_same b))) r shows
     where
       shows : (c : Clause) → Due (LinkState ∷ EventState ∷ []) (Column.Struck ∷ Column.Destroyed ∷ []) c
           → says c (destroy_event s e) (strike (enter b Column.Destroyed e 1) e)
@@ -131,3 +131,24 @@ module _ (s : Session) (b : Book) (e : ℕ) (made : e ≤ s Objects 0) (kind : s
       shows struck_agree due = struck_agrees
       shows blank_destroyed due = blank-set e 1 made (r blank_destroyed)
       shows blank_struck due = struck_blank
+      shows Rattle.laws.specs.Relation.same_objects x' = elim x' [ ]
+      shows same_links x'' = elim x'' [ ]
+      shows Rattle.laws.specs.Relation.same_kinds x3 = elim x3 [ ]
+      shows Rattle.laws.specs.Relation.same_types x4 = elim x4 [ ]
+      shows Rattle.laws.specs.Relation.same_makers x5 = elim x5 [ ]
+      shows Rattle.laws.specs.Relation.same_finishes x6 = elim x6 [ ]
+      shows Rattle.laws.specs.Relation.same_outputs x7 = elim x7 [ ]
+      shows same_sources x8 = elim x8 [ ]
+      shows Rattle.laws.specs.Relation.same_targets x9 = elim x9 [ ]
+      shows Rattle.laws.specs.Relation.same_slots x10 = elim x10 [ ]
+      shows Rattle.laws.specs.Relation.task_counts x11 = elim x11 [ ]
+      shows Rattle.laws.specs.Relation.template_counts x12 = elim x12 [ ]
+      shows Rattle.laws.specs.Relation.slots_agree x13 = elim x13 [ ]
+      shows Rattle.laws.specs.Relation.ended_agree x14 = elim x14 [ ]
+      shows Rattle.laws.specs.Relation.starts_agree x15 = elim x15 [ ]
+      shows Rattle.laws.specs.Relation.blank_kinds x16 = elim x16 [ ]
+      shows Rattle.laws.specs.Relation.blank_times x17 = elim x17 [ ]
+      shows Rattle.laws.specs.Relation.blank_satisfied x18 = elim x18 [ ]
+      shows Rattle.laws.specs.Relation.blank_has x19 = elim x19 [ ]
+      shows Rattle.laws.specs.Relation.blank_starts x20 = elim x20 [ ]
+      shows Rattle.laws.specs.Relation.blank_ended x21 = elim x21 [ ]

@@ -32,7 +32,7 @@ use Rattle.laws.specs.RelatedFire.{related_fire_output, related-fire_finished}
 related_zero : (s : Session) (b : Book) (e : ℕ) → e ≤ s Objects 0 → s EventState e ≡ event_open → Related s b
     → Related s (enter b Column.Has e 0)
 unfolding enter test
-related_zero s b e m is_open r = related_by (outside_same s) (outside_enter _ _ (outside_same b)) r shows
+related_zero s b e m is_open r = related_by (outside_same s) (outside_enter {c = Column.Has} e 0 (outside_same b)) r shows
   where
     not-fired : (i : ℕ) → HadFired (s EventState i) → e ≡ i → ⊥
     not-fired i f q = unfired event_open (omega arith) (omega arith) (subst HadFired (ap (s EventState) (sym q) ∙ is_open) f)
@@ -41,6 +41,32 @@ related_zero s b e m is_open r = related_by (outside_same s) (outside_enter _ _ 
     shows fired_has due = λ i f. set_there (b Column.Has) e 0 i (not-fired i f) ∙ r fired_has i f
     shows open_has due = λ i o. at_set (λ (w : ℕ). w ≡ 0) (b Column.Has) e 0 i (λ q. refl) (λ n. r open_has i o)
     shows blank_has due = blank-set e 0 m (r blank_has)
+    shows Rattle.laws.specs.Relation.same_objects x' = elim x' [ ]
+    shows Rattle.laws.specs.Relation.same_links x'' = elim x'' [ ]
+    shows Rattle.laws.specs.Relation.same_kinds x3 = elim x3 [ ]
+    shows Rattle.laws.specs.Relation.same_types x4 = elim x4 [ ]
+    shows Rattle.laws.specs.Relation.same_makers x5 = elim x5 [ ]
+    shows same_finishes x6 = elim x6 [ ]
+    shows same_outputs x7 = elim x7 [ ]
+    shows Rattle.laws.specs.Relation.same_sources x8 = elim x8 [ ]
+    shows Rattle.laws.specs.Relation.same_targets x9 = elim x9 [ ]
+    shows Rattle.laws.specs.Relation.same_slots x10 = elim x10 [ ]
+    shows Rattle.laws.specs.Relation.task_counts x11 = elim x11 [ ]
+    shows Rattle.laws.specs.Relation.template_counts x12 = elim x12 [ ]
+    shows Rattle.laws.specs.Relation.slots_agree x13 = elim x13 [ ]
+    shows Rattle.laws.specs.Relation.ended_agree x14 = elim x14 [ ]
+    shows Rattle.laws.specs.Relation.starts_agree x15 = elim x15 [ ]
+    shows Rattle.laws.specs.Relation.tasks_destroyed x16 = elim x16 [ ]
+    shows Rattle.laws.specs.Relation.blocks_destroyed x17 = elim x17 [ ]
+    shows Rattle.laws.specs.Relation.satisfied_agree x18 = elim x18 [ ]
+    shows Rattle.laws.specs.Relation.struck_agree x19 = elim x19 [ ]
+    shows Rattle.laws.specs.Relation.blank_kinds x20 = elim x20 [ ]
+    shows Rattle.laws.specs.Relation.blank_times x21 = elim x21 [ ]
+    shows Rattle.laws.specs.Relation.blank_satisfied x22 = elim x22 [ ]
+    shows Rattle.laws.specs.Relation.blank_starts x23 = elim x23 [ ]
+    shows Rattle.laws.specs.Relation.blank_ended x24 = elim x24 [ ]
+    shows Rattle.laws.specs.Relation.blank_destroyed x25 = elim x25 [ ]
+    shows Rattle.laws.specs.Relation.blank_struck x26 = elim x26 [ ]
 
 -- what the book enters
 module _ (b : Book) (t p : ℕ) where

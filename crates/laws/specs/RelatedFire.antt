@@ -90,6 +90,31 @@ module _ (s : Session) (fires : ℕ → Formula) (payload : ℕ → ℕ) where
           fire-satisfied (b Column.Satisfied) (b Column.Satisfied)
           (λ e y l. absurd ((may e y).2 l)) (λ e n. refl) (r satisfied_agree)
       shows struck_agree due = fire_struck (s Links 0) (b Column.Struck) (r struck_agree)
+      shows Rattle.laws.specs.Relation.same_objects x' = elim x' [ ]
+      shows Rattle.laws.specs.Relation.same_links x'' = elim x'' [ ]
+      shows same_kinds x3 = elim x3 [ ]
+      shows same_types x4 = elim x4 [ ]
+      shows Rattle.laws.specs.Relation.same_makers x5 = elim x5 [ ]
+      shows Rattle.laws.specs.Relation.same_finishes x6 = elim x6 [ ]
+      shows Rattle.laws.specs.Relation.same_outputs x7 = elim x7 [ ]
+      shows Rattle.laws.specs.Relation.same_sources x8 = elim x8 [ ]
+      shows Rattle.laws.specs.Relation.same_targets x9 = elim x9 [ ]
+      shows Rattle.laws.specs.Relation.same_slots x10 = elim x10 [ ]
+      shows Rattle.laws.specs.Relation.task_counts x11 = elim x11 [ ]
+      shows Rattle.laws.specs.Relation.template_counts x12 = elim x12 [ ]
+      shows Rattle.laws.specs.Relation.slots_agree x13 = elim x13 [ ]
+      shows Rattle.laws.specs.Relation.ended_agree x14 = elim x14 [ ]
+      shows Rattle.laws.specs.Relation.starts_agree x15 = elim x15 [ ]
+      shows Rattle.laws.specs.Relation.tasks_destroyed x16 = elim x16 [ ]
+      shows Rattle.laws.specs.Relation.blocks_destroyed x17 = elim x17 [ ]
+      shows Rattle.laws.specs.Relation.blank_kinds x18 = elim x18 [ ]
+      shows Rattle.laws.specs.Relation.blank_times x19 = elim x19 [ ]
+      shows blank_satisfied x20 = elim x20 [ ]
+      shows blank_has x21 = elim x21 [ ]
+      shows Rattle.laws.specs.Relation.blank_starts x22 = elim x22 [ ]
+      shows Rattle.laws.specs.Relation.blank_ended x23 = elim x23 [ ]
+      shows Rattle.laws.specs.Relation.blank_destroyed x24 = elim x24 [ ]
+      shows Rattle.laws.specs.Relation.blank_struck x25 = elim x25 [ ]
 
 -- the finish tasks' output events
 pub related-fire_finished : (s : Session) (b : Book) → Related s b → Related (fire_finished s) b
@@ -125,7 +150,7 @@ module _ (s : Session) (b : Book) (e p : ℕ) (r : Related s b) where
 pub related_fire_output : (s : Session) (b : Book) (e p : ℕ) → e ≤ s Objects 0 → s EventType e ≡ output → Related s b
     → Related (fire_one s e p) (enter b Column.Has e p)
 unfolding fire_one fire change enter test
-related_fire_output s b e p m ty r = related_by (fire_one-writes s e p) (outside_enter _ _ (outside_same b)) r shows
+related_fire_output s b e p m ty r = related_by (fire_one-writes s e p) (outside_enter {c = Column.Has} e p (outside_same b)) r shows
   where
     shows : (c : Clause) → Due fire_fields (Column.Has ∷ []) c → says c (fire_one s e p) (enter b Column.Has e p)
     shows fired_has due = one_has s b e p r
@@ -135,13 +160,37 @@ related_fire_output s b e p m ty r = related_by (fire_one-writes s e p) (outside
         (λ k q l. absurd (fires_no_output _ l (ap (s EventType) q ∙ ty))) (λ k n. refl) (r satisfied_agree)
     shows struck_agree due = one_struck s b e p r
     shows blank_has due = blank-set e p m (r blank_has)
+    shows Rattle.laws.specs.Relation.same_objects x' = elim x' [ ]
+    shows Rattle.laws.specs.Relation.same_links x'' = elim x'' [ ]
+    shows same_kinds x3 = elim x3 [ ]
+    shows same_types x4 = elim x4 [ ]
+    shows Rattle.laws.specs.Relation.same_makers x5 = elim x5 [ ]
+    shows Rattle.laws.specs.Relation.same_finishes x6 = elim x6 [ ]
+    shows Rattle.laws.specs.Relation.same_outputs x7 = elim x7 [ ]
+    shows Rattle.laws.specs.Relation.same_sources x8 = elim x8 [ ]
+    shows Rattle.laws.specs.Relation.same_targets x9 = elim x9 [ ]
+    shows Rattle.laws.specs.Relation.same_slots x10 = elim x10 [ ]
+    shows Rattle.laws.specs.Relation.task_counts x11 = elim x11 [ ]
+    shows Rattle.laws.specs.Relation.template_counts x12 = elim x12 [ ]
+    shows Rattle.laws.specs.Relation.slots_agree x13 = elim x13 [ ]
+    shows Rattle.laws.specs.Relation.ended_agree x14 = elim x14 [ ]
+    shows Rattle.laws.specs.Relation.starts_agree x15 = elim x15 [ ]
+    shows Rattle.laws.specs.Relation.tasks_destroyed x16 = elim x16 [ ]
+    shows Rattle.laws.specs.Relation.blocks_destroyed x17 = elim x17 [ ]
+    shows Rattle.laws.specs.Relation.blank_kinds x18 = elim x18 [ ]
+    shows Rattle.laws.specs.Relation.blank_times x19 = elim x19 [ ]
+    shows blank_satisfied x20 = elim x20 [ ]
+    shows Rattle.laws.specs.Relation.blank_starts x21 = elim x21 [ ]
+    shows Rattle.laws.specs.Relation.blank_ended x22 = elim x22 [ ]
+    shows Rattle.laws.specs.Relation.blank_destroyed x23 = elim x23 [ ]
+    shows Rattle.laws.specs.Relation.blank_struck x24 = elim x24 [ ]
 
 -- an event fires with what it is satisfied with
 pub related_fire_event : (s : Session) (b : Book) (e p : ℕ) → e ≤ s Objects 0 → Related s b
     → Related (fire_one s e p) (enter (enter b Column.Satisfied e 1) Column.Has e p)
 unfolding fire_one fire change enter test
 related_fire_event s b e p m r =
-    related_by (fire_one-writes s e p) (outside_enter _ _ (outside_enter _ _ (outside_same b))) r shows
+    related_by (fire_one-writes s e p) (outside_enter {c = Column.Has} e p (outside_enter {c = Column.Satisfied} e 1 (outside_same b))) r shows
   where
     shows : (c : Clause) → Due fire_fields (Column.Has ∷ Column.Satisfied ∷ []) c
         → says c (fire_one s e p) (enter (enter b Column.Satisfied e 1) Column.Has e p)
@@ -153,6 +202,29 @@ related_fire_event s b e p m r =
     shows struck_agree due = one_struck s b e p r
     shows blank_satisfied due = blank-set e 1 m (r blank_satisfied)
     shows blank_has due = blank-set e p m (r blank_has)
+    shows Rattle.laws.specs.Relation.same_objects x' = elim x' [ ]
+    shows Rattle.laws.specs.Relation.same_links x'' = elim x'' [ ]
+    shows same_kinds x3 = elim x3 [ ]
+    shows same_types x4 = elim x4 [ ]
+    shows Rattle.laws.specs.Relation.same_makers x5 = elim x5 [ ]
+    shows Rattle.laws.specs.Relation.same_finishes x6 = elim x6 [ ]
+    shows Rattle.laws.specs.Relation.same_outputs x7 = elim x7 [ ]
+    shows Rattle.laws.specs.Relation.same_sources x8 = elim x8 [ ]
+    shows Rattle.laws.specs.Relation.same_targets x9 = elim x9 [ ]
+    shows Rattle.laws.specs.Relation.same_slots x10 = elim x10 [ ]
+    shows Rattle.laws.specs.Relation.task_counts x11 = elim x11 [ ]
+    shows Rattle.laws.specs.Relation.template_counts x12 = elim x12 [ ]
+    shows Rattle.laws.specs.Relation.slots_agree x13 = elim x13 [ ]
+    shows Rattle.laws.specs.Relation.ended_agree x14 = elim x14 [ ]
+    shows Rattle.laws.specs.Relation.starts_agree x15 = elim x15 [ ]
+    shows Rattle.laws.specs.Relation.tasks_destroyed x16 = elim x16 [ ]
+    shows Rattle.laws.specs.Relation.blocks_destroyed x17 = elim x17 [ ]
+    shows Rattle.laws.specs.Relation.blank_kinds x18 = elim x18 [ ]
+    shows Rattle.laws.specs.Relation.blank_times x19 = elim x19 [ ]
+    shows Rattle.laws.specs.Relation.blank_starts x20 = elim x20 [ ]
+    shows Rattle.laws.specs.Relation.blank_ended x21 = elim x21 [ ]
+    shows Rattle.laws.specs.Relation.blank_destroyed x22 = elim x22 [ ]
+    shows Rattle.laws.specs.Relation.blank_struck x23 = elim x23 [ ]
 
 -- a latch counts: the book says nothing of it
 related-counted : (s : Session) (b : Book) (e j : ℕ) → Related s b → Related (counted s e j) b

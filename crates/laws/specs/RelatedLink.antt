@@ -55,7 +55,7 @@ unfolding new_link put enter test
 link_at_lem s b source d j r l' p =
     rw p
     (related_by (new_link-writes s source d j)
-    (outside_enter _ _ (outside_enter _ _ (outside_enter _ _ (outside_enter _ _ (outside_same b))))) r shows)
+    (outside_enter {c = Column.LinkSlot} (s Links 0 + 1) j (outside_enter {c = Column.LinkTarget} (s Links 0 + 1) d (outside_enter {c = Column.LinkSource} (s Links 0 + 1) source (outside_enter {c = Column.Links} 0 (s Links 0 + 1) (outside_same b))))) r shows)
   where
     l : ℕ
     l = s Links 0 + 1
@@ -81,6 +81,29 @@ link_at_lem s b source d j r l' p =
         struck_new (s Links 0) v (s LinkState) (b Column.Struck) (low (decide f)) (r blank_struck l (omega arith))
         (r struck_agree)
     shows blank_struck due = blank-more (omega arith) (r blank_struck)
+    shows Rattle.laws.specs.Relation.same_objects x' = elim x' [ ]
+    shows same_kinds x'' = elim x'' [ ]
+    shows Rattle.laws.specs.Relation.same_types x3 = elim x3 [ ]
+    shows Rattle.laws.specs.Relation.same_makers x4 = elim x4 [ ]
+    shows Rattle.laws.specs.Relation.same_finishes x5 = elim x5 [ ]
+    shows Rattle.laws.specs.Relation.same_outputs x6 = elim x6 [ ]
+    shows Rattle.laws.specs.Relation.task_counts x7 = elim x7 [ ]
+    shows Rattle.laws.specs.Relation.template_counts x8 = elim x8 [ ]
+    shows Rattle.laws.specs.Relation.slots_agree x9 = elim x9 [ ]
+    shows Rattle.laws.specs.Relation.ended_agree x10 = elim x10 [ ]
+    shows Rattle.laws.specs.Relation.starts_agree x11 = elim x11 [ ]
+    shows Rattle.laws.specs.Relation.tasks_destroyed x12 = elim x12 [ ]
+    shows Rattle.laws.specs.Relation.blocks_destroyed x13 = elim x13 [ ]
+    shows Rattle.laws.specs.Relation.fired_has x14 = elim x14 [ ]
+    shows Rattle.laws.specs.Relation.open_has x15 = elim x15 [ ]
+    shows Rattle.laws.specs.Relation.satisfied_agree x16 = elim x16 [ ]
+    shows Rattle.laws.specs.Relation.blank_kinds x17 = elim x17 [ ]
+    shows Rattle.laws.specs.Relation.blank_times x18 = elim x18 [ ]
+    shows Rattle.laws.specs.Relation.blank_satisfied x19 = elim x19 [ ]
+    shows Rattle.laws.specs.Relation.blank_has x20 = elim x20 [ ]
+    shows Rattle.laws.specs.Relation.blank_starts x21 = elim x21 [ ]
+    shows Rattle.laws.specs.Relation.blank_ended x22 = elim x22 [ ]
+    shows Rattle.laws.specs.Relation.blank_destroyed x23 = elim x23 [ ]
 
 pub related-new_link : (s : Session) (b : Book) (source d j : ℕ) → Related s b
     → Related (new_link s source d j) (enter_link b source d j)

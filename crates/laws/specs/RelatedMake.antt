@@ -74,6 +74,21 @@ module _ {s : Session} {b : Book} (k : ℕ) (r : Related s b) where
   others blank_starts n due = blank-more (omega arith) (r blank_starts)
   others blank_ended n due = blank-more (omega arith) (r blank_ended)
   others blank_destroyed n due = blank-more (omega arith) (r blank_destroyed)
+  others Rattle.laws.specs.Relation.same_links n x'' = elim x'' [ ]
+  others same_types n x3 = elim x3 [ ]
+  others same_makers n x4 = elim x4 [ ]
+  others same_finishes n x5 = elim x5 [ ]
+  others same_outputs n x6 = elim x6 [ ]
+  others Rattle.laws.specs.Relation.same_sources n x7 = elim x7 [ ]
+  others Rattle.laws.specs.Relation.same_targets n x8 = elim x8 [ ]
+  others Rattle.laws.specs.Relation.same_slots n x9 = elim x9 [ ]
+  others ended_agree n x10 = elim x10 [ ]
+  others starts_agree n x11 = elim x11 [ ]
+  others fired_has n x12 = elim x12 [ ]
+  others open_has n x13 = elim x13 [ ]
+  others satisfied_agree n x14 = elim x14 [ ]
+  others Rattle.laws.specs.Relation.struck_agree n x15 = elim x15 [ ]
+  others Rattle.laws.specs.Relation.blank_struck n x16 = elim x16 [ ]
 
   related-made : {q : Session} {d : Book} {ws : List Field} {cs : List Column} → Outside (new s next k) q ws
       → OutsideBook (entry b next k) d cs → ((c : Clause) → Made k ws cs c → says c q d) → Related q d
@@ -93,7 +108,7 @@ template-at : (s : Session) (b : Book) (n : ℕ) → Related s b
     → Related (new_template s n) (enter (entry b (s Objects 0 + 1) template) Column.Count (s Objects 0 + 1) n)
 unfolding new_template new put enter test
 template-at s b n r =
-    related-made template r (outside_put _ _ (outside_put _ _ (outside_same _))) (outside_enter _ _ (outside_same _)) shows
+    related-made template r (outside_put {f = TemplateCount} (s Objects 0 + 1) n (outside_put {f = TemplateState} (s Objects 0 + 1) fresh (outside_same _))) (outside_enter {c = Column.Count} (s Objects 0 + 1) n (outside_same _)) shows
   where
     h : ℕ
     h = s Objects 0 + 1
@@ -104,6 +119,33 @@ template-at s b n r =
         counts-other template task (s Kind) (b Column.Count) (s TaskSlots) h n (omega arith) (r task_counts)
     shows template_counts due =
         counts-new template (s Kind) (b Column.Count) (s TemplateCount) h n n refl (r template_counts)
+    shows same_objects x' = elim x' [ ]
+    shows Rattle.laws.specs.Relation.same_links x'' = elim x'' [ ]
+    shows same_kinds x3 = elim x3 [ ]
+    shows same_types x4 = elim x4 [ ]
+    shows same_makers x5 = elim x5 [ ]
+    shows same_finishes x6 = elim x6 [ ]
+    shows same_outputs x7 = elim x7 [ ]
+    shows Rattle.laws.specs.Relation.same_sources x8 = elim x8 [ ]
+    shows Rattle.laws.specs.Relation.same_targets x9 = elim x9 [ ]
+    shows Rattle.laws.specs.Relation.same_slots x10 = elim x10 [ ]
+    shows slots_agree x11 = elim x11 [ ]
+    shows ended_agree x12 = elim x12 [ ]
+    shows starts_agree x13 = elim x13 [ ]
+    shows tasks_destroyed x14 = elim x14 [ ]
+    shows blocks_destroyed x15 = elim x15 [ ]
+    shows fired_has x16 = elim x16 [ ]
+    shows open_has x17 = elim x17 [ ]
+    shows satisfied_agree x18 = elim x18 [ ]
+    shows Rattle.laws.specs.Relation.struck_agree x19 = elim x19 [ ]
+    shows blank_kinds x20 = elim x20 [ ]
+    shows blank_times x21 = elim x21 [ ]
+    shows blank_satisfied x22 = elim x22 [ ]
+    shows blank_has x23 = elim x23 [ ]
+    shows blank_starts x24 = elim x24 [ ]
+    shows blank_ended x25 = elim x25 [ ]
+    shows blank_destroyed x26 = elim x26 [ ]
+    shows Rattle.laws.specs.Relation.blank_struck x27 = elim x27 [ ]
 
 pub related-template : (s : Session) (b : Book) (n : ℕ) → Related s b
     → Related (new_template s n) (enter (enter_object b template) Column.Count (b Column.Objects 0 + 1) n)
@@ -139,8 +181,8 @@ event-at : (s : Session) (b : Book) (ty n : ℕ) → Related s b
     → Related (new_event s (s Objects 0 + 1) ty n) (enter (entry b (s Objects 0 + 1) event) Column.EventType (s Objects 0 + 1) ty)
 unfolding new_event new put enter test
 event-at s b ty n r =
-    related-made event r (outside_put _ _ (outside_put _ _ (outside_put _ _ (outside_put _ _ (outside_same _)))))
-    (outside_enter _ _ (outside_same _)) shows
+    related-made event r (outside_put {f = EventCount} (s Objects 0 + 1) n (outside_put {f = EventTally} (s Objects 0 + 1) (choose (ty ≐ Rattle.session.specs.Names.latch) Rattle.session.specs.Names.even_tally 0) (outside_put {f = EventType} (s Objects 0 + 1) ty (outside_put {f = EventState} (s Objects 0 + 1) event_open (outside_same _)))))
+    (outside_enter {c = Column.EventType} (s Objects 0 + 1) ty (outside_same _)) shows
   where
     h : ℕ
     h = s Objects 0 + 1
@@ -153,6 +195,31 @@ event-at s b ty n r =
     shows satisfied_agree due =
         satisfied-new h ty (s EventType) (s EventState) (b Column.Satisfied) (r blank_satisfied h (omega arith))
         (r satisfied_agree)
+    shows same_objects x' = elim x' [ ]
+    shows Rattle.laws.specs.Relation.same_links x'' = elim x'' [ ]
+    shows same_kinds x3 = elim x3 [ ]
+    shows same_makers x4 = elim x4 [ ]
+    shows same_finishes x5 = elim x5 [ ]
+    shows same_outputs x6 = elim x6 [ ]
+    shows Rattle.laws.specs.Relation.same_sources x7 = elim x7 [ ]
+    shows Rattle.laws.specs.Relation.same_targets x8 = elim x8 [ ]
+    shows Rattle.laws.specs.Relation.same_slots x9 = elim x9 [ ]
+    shows task_counts x10 = elim x10 [ ]
+    shows template_counts x11 = elim x11 [ ]
+    shows slots_agree x12 = elim x12 [ ]
+    shows ended_agree x13 = elim x13 [ ]
+    shows starts_agree x14 = elim x14 [ ]
+    shows tasks_destroyed x15 = elim x15 [ ]
+    shows blocks_destroyed x16 = elim x16 [ ]
+    shows Rattle.laws.specs.Relation.struck_agree x17 = elim x17 [ ]
+    shows blank_kinds x18 = elim x18 [ ]
+    shows blank_times x19 = elim x19 [ ]
+    shows blank_satisfied x20 = elim x20 [ ]
+    shows blank_has x21 = elim x21 [ ]
+    shows blank_starts x22 = elim x22 [ ]
+    shows blank_ended x23 = elim x23 [ ]
+    shows blank_destroyed x24 = elim x24 [ ]
+    shows Rattle.laws.specs.Relation.blank_struck x25 = elim x25 [ ]
 
 pub related-event : (s : Session) (b : Book) (ty n : ℕ) → Related s b
     → Related (new_event s (s Objects 0 + 1) ty n) (enter (enter_object b event) Column.EventType (b Column.Objects 0 + 1) ty)
@@ -174,7 +241,7 @@ block_at : (s : Session) (b : Book) (caller hold : ℕ) → Related s b
     → Related (new_block s caller hold) (entry b (s Objects 0 + 1) block)
 unfolding new_block new put enter test
 block_at s b caller hold r =
-    related-made block r (outside_put _ _ (outside_put _ _ (outside_put _ _ (outside_same _)))) (outside_same _) shows
+    related-made block r (outside_put {f = BlockHeld} (s Objects 0 + 1) hold (outside_put {f = BlockCreator} (s Objects 0 + 1) caller (outside_put {f = BlockState} (s Objects 0 + 1) fresh (outside_same _)))) (outside_same _) shows
   where
     h : ℕ
     h = s Objects 0 + 1
@@ -183,6 +250,34 @@ block_at s b caller hold r =
         → says c (new_block s caller hold) (entry b h block)
     shows blocks_destroyed due =
         blocks-new h (s Kind) (s BlockState) (b Column.Destroyed) (r blank_destroyed h (omega arith)) (r blocks_destroyed)
+    shows same_objects x' = elim x' [ ]
+    shows Rattle.laws.specs.Relation.same_links x'' = elim x'' [ ]
+    shows same_kinds x3 = elim x3 [ ]
+    shows same_types x4 = elim x4 [ ]
+    shows same_makers x5 = elim x5 [ ]
+    shows same_finishes x6 = elim x6 [ ]
+    shows same_outputs x7 = elim x7 [ ]
+    shows Rattle.laws.specs.Relation.same_sources x8 = elim x8 [ ]
+    shows Rattle.laws.specs.Relation.same_targets x9 = elim x9 [ ]
+    shows Rattle.laws.specs.Relation.same_slots x10 = elim x10 [ ]
+    shows task_counts x11 = elim x11 [ ]
+    shows template_counts x12 = elim x12 [ ]
+    shows slots_agree x13 = elim x13 [ ]
+    shows ended_agree x14 = elim x14 [ ]
+    shows starts_agree x15 = elim x15 [ ]
+    shows tasks_destroyed x16 = elim x16 [ ]
+    shows fired_has x17 = elim x17 [ ]
+    shows open_has x18 = elim x18 [ ]
+    shows satisfied_agree x19 = elim x19 [ ]
+    shows Rattle.laws.specs.Relation.struck_agree x20 = elim x20 [ ]
+    shows blank_kinds x21 = elim x21 [ ]
+    shows blank_times x22 = elim x22 [ ]
+    shows blank_satisfied x23 = elim x23 [ ]
+    shows blank_has x24 = elim x24 [ ]
+    shows blank_starts x25 = elim x25 [ ]
+    shows blank_ended x26 = elim x26 [ ]
+    shows blank_destroyed x27 = elim x27 [ ]
+    shows Rattle.laws.specs.Relation.blank_struck x28 = elim x28 [ ]
 
 pub related-block : (s : Session) (b : Book) (caller hold : ℕ) → Related s b
     → Related (new_block s caller hold) (enter_object b block)
@@ -245,8 +340,8 @@ unfolding new_task new put enter test
 task-at s b caller n count finish out same few none r h' p' =
     rw p'
     (related-made task r
-    (outside_put _ _ (outside_put _ _ (outside_put _ _ (outside_put _ _ (outside_put _ _ (outside_same _))))))
-    (outside_enter _ _ (outside_enter _ _ (outside_enter _ _ (outside_enter _ _ (outside_same _))))) shows)
+    (outside_put {f = TaskOutput} (s Objects 0 + 1) out (outside_put {f = TaskFinish} (s Objects 0 + 1) finish (outside_put {f = TaskSlots} (s Objects 0 + 1) n (outside_put {f = TaskCreator} (s Objects 0 + 1) caller (outside_put {f = TaskState} (s Objects 0 + 1) (choose (n ≐ 0) resolved waiting) (outside_same _))))))
+    (outside_enter {c = Column.Output} (s Objects 0 + 1) out (outside_enter {c = Column.Finish} (s Objects 0 + 1) finish (outside_enter {c = Column.Count} (s Objects 0 + 1) count (outside_enter {c = Column.Maker} (s Objects 0 + 1) caller (outside_same _))))) shows)
   where
     h : ℕ
     h = s Objects 0 + 1
@@ -280,6 +375,26 @@ task-at s b caller n count finish out same few none r h' p' =
         starts_new h v low (s TaskState) (b Column.Starts) (r blank_starts h (omega arith)) (r starts_agree)
     shows tasks_destroyed due =
         tasks_new h v low (s TaskState) (b Column.Destroyed) (r blank_destroyed h (omega arith)) (s Kind) (r tasks_destroyed)
+    shows same_objects x' = elim x' [ ]
+    shows Rattle.laws.specs.Relation.same_links x'' = elim x'' [ ]
+    shows same_kinds x3 = elim x3 [ ]
+    shows same_types x4 = elim x4 [ ]
+    shows Rattle.laws.specs.Relation.same_sources x5 = elim x5 [ ]
+    shows Rattle.laws.specs.Relation.same_targets x6 = elim x6 [ ]
+    shows Rattle.laws.specs.Relation.same_slots x7 = elim x7 [ ]
+    shows blocks_destroyed x8 = elim x8 [ ]
+    shows fired_has x9 = elim x9 [ ]
+    shows open_has x10 = elim x10 [ ]
+    shows satisfied_agree x11 = elim x11 [ ]
+    shows Rattle.laws.specs.Relation.struck_agree x12 = elim x12 [ ]
+    shows blank_kinds x13 = elim x13 [ ]
+    shows blank_times x14 = elim x14 [ ]
+    shows blank_satisfied x15 = elim x15 [ ]
+    shows blank_has x16 = elim x16 [ ]
+    shows blank_starts x17 = elim x17 [ ]
+    shows blank_ended x18 = elim x18 [ ]
+    shows blank_destroyed x19 = elim x19 [ ]
+    shows Rattle.laws.specs.Relation.blank_struck x20 = elim x20 [ ]
 
 -- the book's task before its output event
 abbrev task_entry : Book → ℕ → ℕ → ℕ → ℕ → ℕ → Book

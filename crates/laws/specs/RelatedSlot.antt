@@ -76,7 +76,7 @@ module _ (s : Session) (b : Book) (t j p : ℕ) (made : t ≤ s Objects 0) (low 
   related-filled : b Column.Times (at t j) ≡ 0
       → Related (put (put s SlotMark (at t j) satisfied) SlotPayload (at t j) p) (slot_entry b t j p)
   unfolding put enter test
-  related-filled z = related_by (outside_put _ _ (outside_put _ _ (outside_same s))) (slot-entered b t j p) r shows
+  related-filled z = related_by (outside_put {f = SlotPayload} (at t j) p (outside_put {f = SlotMark} (at t j) satisfied (outside_same s))) (slot-entered b t j p) r shows
     where
       shows : (c : Clause) → Due (SlotPayload ∷ SlotMark ∷ []) (Column.Brought ∷ Column.Times ∷ []) c
           → says c (put (put s SlotMark (at t j) satisfied) SlotPayload (at t j) p) (slot_entry b t j p)
@@ -84,6 +84,33 @@ module _ (s : Session) (b : Book) (t j p : ℕ) (made : t ≤ s Objects 0) (low 
           slots_filled (s Objects 0) (at t j) p (s Kind) (s TaskState) (s TaskSlots) (s SlotMark) (s SlotPayload)
           (b Column.Times) (b Column.Brought) z (r slots_agree)
       shows blank_times due = blank-set (at t j) (b Column.Times (at t j) + 1) (omega arith) (r blank_times)
+      shows Rattle.laws.specs.Relation.same_objects x' = elim x' [ ]
+      shows Rattle.laws.specs.Relation.same_links x'' = elim x'' [ ]
+      shows same_kinds x3 = elim x3 [ ]
+      shows Rattle.laws.specs.Relation.same_types x4 = elim x4 [ ]
+      shows Rattle.laws.specs.Relation.same_makers x5 = elim x5 [ ]
+      shows Rattle.laws.specs.Relation.same_finishes x6 = elim x6 [ ]
+      shows Rattle.laws.specs.Relation.same_outputs x7 = elim x7 [ ]
+      shows Rattle.laws.specs.Relation.same_sources x8 = elim x8 [ ]
+      shows Rattle.laws.specs.Relation.same_targets x9 = elim x9 [ ]
+      shows Rattle.laws.specs.Relation.same_slots x10 = elim x10 [ ]
+      shows Rattle.laws.specs.Relation.task_counts x11 = elim x11 [ ]
+      shows Rattle.laws.specs.Relation.template_counts x12 = elim x12 [ ]
+      shows Rattle.laws.specs.Relation.ended_agree x13 = elim x13 [ ]
+      shows Rattle.laws.specs.Relation.starts_agree x14 = elim x14 [ ]
+      shows Rattle.laws.specs.Relation.tasks_destroyed x15 = elim x15 [ ]
+      shows Rattle.laws.specs.Relation.blocks_destroyed x16 = elim x16 [ ]
+      shows Rattle.laws.specs.Relation.fired_has x17 = elim x17 [ ]
+      shows Rattle.laws.specs.Relation.open_has x18 = elim x18 [ ]
+      shows Rattle.laws.specs.Relation.satisfied_agree x19 = elim x19 [ ]
+      shows Rattle.laws.specs.Relation.struck_agree x20 = elim x20 [ ]
+      shows Rattle.laws.specs.Relation.blank_kinds x21 = elim x21 [ ]
+      shows Rattle.laws.specs.Relation.blank_satisfied x22 = elim x22 [ ]
+      shows Rattle.laws.specs.Relation.blank_has x23 = elim x23 [ ]
+      shows Rattle.laws.specs.Relation.blank_starts x24 = elim x24 [ ]
+      shows Rattle.laws.specs.Relation.blank_ended x25 = elim x25 [ ]
+      shows Rattle.laws.specs.Relation.blank_destroyed x26 = elim x26 [ ]
+      shows Rattle.laws.specs.Relation.blank_struck x27 = elim x27 [ ]
 
   -- a task that has not started, at a slot that is not satisfied
   pub related-satisfy_slot : s Kind t ≡ task → j < s TaskSlots t → s TaskState t ≤ granted → s SlotMark (at t j) ≡ 0
@@ -121,3 +148,30 @@ module _ (s : Session) (b : Book) (t j p : ℕ) (made : t ≤ s Objects 0) (low 
           slots-dropped (s Objects 0) t j p (b Column.Times (at t j) + 1) (s Kind) (s TaskState) (s TaskSlots) (s SlotMark)
           (s SlotPayload) (b Column.Times) (b Column.Brought) low few gone (r slots_agree)
       shows blank_times due = blank-set (at t j) (b Column.Times (at t j) + 1) (omega arith) (r blank_times)
+      shows Rattle.laws.specs.Relation.same_objects x' = elim x' [ ]
+      shows Rattle.laws.specs.Relation.same_links x'' = elim x'' [ ]
+      shows same_kinds x3 = elim x3 [ ]
+      shows Rattle.laws.specs.Relation.same_types x4 = elim x4 [ ]
+      shows Rattle.laws.specs.Relation.same_makers x5 = elim x5 [ ]
+      shows Rattle.laws.specs.Relation.same_finishes x6 = elim x6 [ ]
+      shows Rattle.laws.specs.Relation.same_outputs x7 = elim x7 [ ]
+      shows Rattle.laws.specs.Relation.same_sources x8 = elim x8 [ ]
+      shows Rattle.laws.specs.Relation.same_targets x9 = elim x9 [ ]
+      shows Rattle.laws.specs.Relation.same_slots x10 = elim x10 [ ]
+      shows Rattle.laws.specs.Relation.task_counts x11 = elim x11 [ ]
+      shows Rattle.laws.specs.Relation.template_counts x12 = elim x12 [ ]
+      shows Rattle.laws.specs.Relation.ended_agree x13 = elim x13 [ ]
+      shows Rattle.laws.specs.Relation.starts_agree x14 = elim x14 [ ]
+      shows Rattle.laws.specs.Relation.tasks_destroyed x15 = elim x15 [ ]
+      shows Rattle.laws.specs.Relation.blocks_destroyed x16 = elim x16 [ ]
+      shows Rattle.laws.specs.Relation.fired_has x17 = elim x17 [ ]
+      shows Rattle.laws.specs.Relation.open_has x18 = elim x18 [ ]
+      shows Rattle.laws.specs.Relation.satisfied_agree x19 = elim x19 [ ]
+      shows Rattle.laws.specs.Relation.struck_agree x20 = elim x20 [ ]
+      shows Rattle.laws.specs.Relation.blank_kinds x21 = elim x21 [ ]
+      shows Rattle.laws.specs.Relation.blank_satisfied x22 = elim x22 [ ]
+      shows Rattle.laws.specs.Relation.blank_has x23 = elim x23 [ ]
+      shows Rattle.laws.specs.Relation.blank_starts x24 = elim x24 [ ]
+      shows Rattle.laws.specs.Relation.blank_ended x25 = elim x25 [ ]
+      shows Rattle.laws.specs.Relation.blank_destroyed x26 = elim x26 [ ]
+      shows Rattle.laws.specs.Relation.blank_struck x27 = elim x27 [ ]

@@ -56,7 +56,7 @@ Destroyed v = v ≡ task_destroyed
 pub related_early : (s : Session) (b : Book) (t v : ℕ) → s TaskState t ≤ granted → v ≤ granted → Related s b
     → Related (put s TaskState t v) b
 unfolding put
-related_early s b t v was is r = related_by (outside_put _ _ (outside_same s)) (outside_same b) r shows
+related_early s b t v was is r = related_by (outside_put {f = TaskState} t v (outside_same s)) (outside_same b) r shows
   where
     shows : (c : Clause) → Due (TaskState ∷ []) [] c → says c (put s TaskState t v) b
     shows slots_agree due =
@@ -67,16 +67,69 @@ related_early s b t v was is r = related_by (outside_put _ _ (outside_same s)) (
         λ i. marks_none Started (s TaskState) t v (λ e. omega arith) (λ e. omega arith) (r starts_agree i)
     shows tasks_destroyed due =
         λ i k. marks_none Destroyed (s TaskState) t v (λ e. omega arith) (λ e. omega arith) (r tasks_destroyed i k)
+    shows Rattle.laws.specs.Relation.same_objects x' = elim x' [ ]
+    shows Rattle.laws.specs.Relation.same_links x'' = elim x'' [ ]
+    shows Rattle.laws.specs.Relation.same_kinds x3 = elim x3 [ ]
+    shows Rattle.laws.specs.Relation.same_types x4 = elim x4 [ ]
+    shows Rattle.laws.specs.Relation.same_makers x5 = elim x5 [ ]
+    shows Rattle.laws.specs.Relation.same_finishes x6 = elim x6 [ ]
+    shows Rattle.laws.specs.Relation.same_outputs x7 = elim x7 [ ]
+    shows Rattle.laws.specs.Relation.same_sources x8 = elim x8 [ ]
+    shows Rattle.laws.specs.Relation.same_targets x9 = elim x9 [ ]
+    shows Rattle.laws.specs.Relation.same_slots x10 = elim x10 [ ]
+    shows Rattle.laws.specs.Relation.task_counts x11 = elim x11 [ ]
+    shows Rattle.laws.specs.Relation.template_counts x12 = elim x12 [ ]
+    shows blocks_destroyed x13 = elim x13 [ ]
+    shows Rattle.laws.specs.Relation.fired_has x14 = elim x14 [ ]
+    shows Rattle.laws.specs.Relation.open_has x15 = elim x15 [ ]
+    shows Rattle.laws.specs.Relation.satisfied_agree x16 = elim x16 [ ]
+    shows Rattle.laws.specs.Relation.struck_agree x17 = elim x17 [ ]
+    shows Rattle.laws.specs.Relation.blank_kinds x18 = elim x18 [ ]
+    shows Rattle.laws.specs.Relation.blank_times x19 = elim x19 [ ]
+    shows Rattle.laws.specs.Relation.blank_satisfied x20 = elim x20 [ ]
+    shows Rattle.laws.specs.Relation.blank_has x21 = elim x21 [ ]
+    shows blank_starts x22 = elim x22 [ ]
+    shows blank_ended x23 = elim x23 [ ]
+    shows blank_destroyed x24 = elim x24 [ ]
+    shows Rattle.laws.specs.Relation.blank_struck x25 = elim x25 [ ]
 
 -- a grant: the slots that are held were satisfied
 related-marks : (s : Session) (b : Book) (mark : ℕ → ℕ)
     → ((h j : ℕ) → h < s Objects 0 + 1 → j < s TaskSlots h → AsFull (s SlotMark (at h j)) (mark (at h j)))
     → Related s b → Related (change s SlotMark mark) b
 unfolding change
-related-marks s b mark f r = related_by (outside_change _ (outside_same s)) (outside_same b) r shows
+related-marks s b mark f r = related_by (outside_change {f = SlotMark} (λ x'. mark x') (outside_same s)) (outside_same b) r shows
   where
     shows : (c : Clause) → Due (SlotMark ∷ []) [] c → says c (change s SlotMark mark) b
     shows slots_agree due = λ h l k d j m. as_full (f h j l m) (r slots_agree h l k d j m)
+    shows Rattle.laws.specs.Relation.same_objects x' = elim x' [ ]
+    shows Rattle.laws.specs.Relation.same_links x'' = elim x'' [ ]
+    shows Rattle.laws.specs.Relation.same_kinds x3 = elim x3 [ ]
+    shows Rattle.laws.specs.Relation.same_types x4 = elim x4 [ ]
+    shows Rattle.laws.specs.Relation.same_makers x5 = elim x5 [ ]
+    shows Rattle.laws.specs.Relation.same_finishes x6 = elim x6 [ ]
+    shows Rattle.laws.specs.Relation.same_outputs x7 = elim x7 [ ]
+    shows Rattle.laws.specs.Relation.same_sources x8 = elim x8 [ ]
+    shows Rattle.laws.specs.Relation.same_targets x9 = elim x9 [ ]
+    shows Rattle.laws.specs.Relation.same_slots x10 = elim x10 [ ]
+    shows Rattle.laws.specs.Relation.task_counts x11 = elim x11 [ ]
+    shows Rattle.laws.specs.Relation.template_counts x12 = elim x12 [ ]
+    shows ended_agree x13 = elim x13 [ ]
+    shows starts_agree x14 = elim x14 [ ]
+    shows tasks_destroyed x15 = elim x15 [ ]
+    shows blocks_destroyed x16 = elim x16 [ ]
+    shows Rattle.laws.specs.Relation.fired_has x17 = elim x17 [ ]
+    shows Rattle.laws.specs.Relation.open_has x18 = elim x18 [ ]
+    shows Rattle.laws.specs.Relation.satisfied_agree x19 = elim x19 [ ]
+    shows Rattle.laws.specs.Relation.struck_agree x20 = elim x20 [ ]
+    shows Rattle.laws.specs.Relation.blank_kinds x21 = elim x21 [ ]
+    shows Rattle.laws.specs.Relation.blank_times x22 = elim x22 [ ]
+    shows Rattle.laws.specs.Relation.blank_satisfied x23 = elim x23 [ ]
+    shows Rattle.laws.specs.Relation.blank_has x24 = elim x24 [ ]
+    shows blank_starts x25 = elim x25 [ ]
+    shows blank_ended x26 = elim x26 [ ]
+    shows blank_destroyed x27 = elim x27 [ ]
+    shows Rattle.laws.specs.Relation.blank_struck x28 = elim x28 [ ]
 
 module _ (s : Session) (t : ℕ) (x : Kept s) where
   grant-marks : (h j : ℕ) → h < s Objects 0 + 1 → j < s TaskSlots h
@@ -110,7 +163,7 @@ related-grant s b t c k r =
 pub related-start : (s : Session) (b : Book) (t : ℕ) → Checked (start_checks s t) → Related s b
     → Related (start s t) (enter b Column.Starts t (b Column.Starts t + 1))
 unfolding start put enter test
-related-start s b t c r = related_by (start-writes s t) (outside_enter _ _ (outside_same b)) r shows
+related-start s b t c r = related_by (start-writes s t) (outside_enter {c = Column.Starts} t (b Rattle.rules.specs.Book.Starts t + 1) (outside_same b)) r shows
   where
     was : s TaskState t ≡ granted
     was = c 16
@@ -133,13 +186,37 @@ related-start s b t c r = related_by (start-writes s t) (outside_enter _ _ (outs
         let w = was in
         λ i k. marks_none Destroyed (s TaskState) t running (λ e. omega arith) (λ e. omega arith) (r tasks_destroyed i k)
     shows blank_starts due = blank-set t (b Column.Starts t + 1) (c 9).1 (r blank_starts)
+    shows Rattle.laws.specs.Relation.same_objects x' = elim x' [ ]
+    shows Rattle.laws.specs.Relation.same_links x'' = elim x'' [ ]
+    shows Rattle.laws.specs.Relation.same_kinds x3 = elim x3 [ ]
+    shows Rattle.laws.specs.Relation.same_types x4 = elim x4 [ ]
+    shows Rattle.laws.specs.Relation.same_makers x5 = elim x5 [ ]
+    shows Rattle.laws.specs.Relation.same_finishes x6 = elim x6 [ ]
+    shows Rattle.laws.specs.Relation.same_outputs x7 = elim x7 [ ]
+    shows Rattle.laws.specs.Relation.same_sources x8 = elim x8 [ ]
+    shows Rattle.laws.specs.Relation.same_targets x9 = elim x9 [ ]
+    shows Rattle.laws.specs.Relation.same_slots x10 = elim x10 [ ]
+    shows Rattle.laws.specs.Relation.task_counts x11 = elim x11 [ ]
+    shows Rattle.laws.specs.Relation.template_counts x12 = elim x12 [ ]
+    shows blocks_destroyed x13 = elim x13 [ ]
+    shows Rattle.laws.specs.Relation.fired_has x14 = elim x14 [ ]
+    shows Rattle.laws.specs.Relation.open_has x15 = elim x15 [ ]
+    shows Rattle.laws.specs.Relation.satisfied_agree x16 = elim x16 [ ]
+    shows Rattle.laws.specs.Relation.struck_agree x17 = elim x17 [ ]
+    shows Rattle.laws.specs.Relation.blank_kinds x18 = elim x18 [ ]
+    shows Rattle.laws.specs.Relation.blank_times x19 = elim x19 [ ]
+    shows Rattle.laws.specs.Relation.blank_satisfied x20 = elim x20 [ ]
+    shows Rattle.laws.specs.Relation.blank_has x21 = elim x21 [ ]
+    shows blank_ended x22 = elim x22 [ ]
+    shows blank_destroyed x23 = elim x23 [ ]
+    shows Rattle.laws.specs.Relation.blank_struck x24 = elim x24 [ ]
 
 -- an end is entered
 pub related-ended : (s : Session) (b : Book) (t : ℕ) → t ≤ s Objects 0 → s TaskState t ≡ running → Related s b
     → Related (put s TaskState t ended) (enter b Column.Ended t 1)
 unfolding put enter test
 related-ended s b t m was r =
-    related_by (outside_put _ _ (outside_same s)) (outside_enter _ _ (outside_same b)) r shows
+    related_by (outside_put {f = TaskState} t ended (outside_same s)) (outside_enter {c = Column.Ended} t 1 (outside_same b)) r shows
   where
     shows : (c : Clause) → Due (TaskState ∷ []) (Column.Ended ∷ []) c
         → says c (put s TaskState t ended) (enter b Column.Ended t 1)
@@ -152,13 +229,37 @@ related-ended s b t m was r =
     shows tasks_destroyed due =
         λ i k. marks_none Destroyed (s TaskState) t ended (λ e. omega arith) (λ e. omega arith) (r tasks_destroyed i k)
     shows blank_ended due = blank-set t 1 m (r blank_ended)
+    shows Rattle.laws.specs.Relation.same_objects x' = elim x' [ ]
+    shows Rattle.laws.specs.Relation.same_links x'' = elim x'' [ ]
+    shows Rattle.laws.specs.Relation.same_kinds x3 = elim x3 [ ]
+    shows Rattle.laws.specs.Relation.same_types x4 = elim x4 [ ]
+    shows Rattle.laws.specs.Relation.same_makers x5 = elim x5 [ ]
+    shows Rattle.laws.specs.Relation.same_finishes x6 = elim x6 [ ]
+    shows Rattle.laws.specs.Relation.same_outputs x7 = elim x7 [ ]
+    shows Rattle.laws.specs.Relation.same_sources x8 = elim x8 [ ]
+    shows Rattle.laws.specs.Relation.same_targets x9 = elim x9 [ ]
+    shows Rattle.laws.specs.Relation.same_slots x10 = elim x10 [ ]
+    shows Rattle.laws.specs.Relation.task_counts x11 = elim x11 [ ]
+    shows Rattle.laws.specs.Relation.template_counts x12 = elim x12 [ ]
+    shows blocks_destroyed x13 = elim x13 [ ]
+    shows Rattle.laws.specs.Relation.fired_has x14 = elim x14 [ ]
+    shows Rattle.laws.specs.Relation.open_has x15 = elim x15 [ ]
+    shows Rattle.laws.specs.Relation.satisfied_agree x16 = elim x16 [ ]
+    shows Rattle.laws.specs.Relation.struck_agree x17 = elim x17 [ ]
+    shows Rattle.laws.specs.Relation.blank_kinds x18 = elim x18 [ ]
+    shows Rattle.laws.specs.Relation.blank_times x19 = elim x19 [ ]
+    shows Rattle.laws.specs.Relation.blank_satisfied x20 = elim x20 [ ]
+    shows Rattle.laws.specs.Relation.blank_has x21 = elim x21 [ ]
+    shows blank_starts x22 = elim x22 [ ]
+    shows blank_destroyed x23 = elim x23 [ ]
+    shows Rattle.laws.specs.Relation.blank_struck x24 = elim x24 [ ]
 
 -- the destroying of a task is entered
 pub related_destroyed : (s : Session) (b : Book) (t : ℕ) → t ≤ s Objects 0 → s Kind t ≡ task → s TaskState t ≤ resolved
     → Related s b → Related (put s TaskState t task_destroyed) (enter b Column.Destroyed t 1)
 unfolding put enter test
 related_destroyed s b t m kind was r =
-    related_by (outside_put _ _ (outside_same s)) (outside_enter _ _ (outside_same b)) r shows
+    related_by (outside_put {f = TaskState} t task_destroyed (outside_same s)) (outside_enter {c = Column.Destroyed} t 1 (outside_same b)) r shows
   where
     shows : (c : Clause) → Due (TaskState ∷ []) (Column.Destroyed ∷ []) c
         → says c (put s TaskState t task_destroyed) (enter b Column.Destroyed t 1)
@@ -173,6 +274,29 @@ related_destroyed s b t m kind was r =
     shows blocks_destroyed due =
         λ i k. marks_beside (s Kind) (b Column.Destroyed) kind k (λ e. omega arith) (r blocks_destroyed i k)
     shows blank_destroyed due = blank-set t 1 m (r blank_destroyed)
+    shows Rattle.laws.specs.Relation.same_objects x' = elim x' [ ]
+    shows Rattle.laws.specs.Relation.same_links x'' = elim x'' [ ]
+    shows Rattle.laws.specs.Relation.same_kinds x3 = elim x3 [ ]
+    shows Rattle.laws.specs.Relation.same_types x4 = elim x4 [ ]
+    shows Rattle.laws.specs.Relation.same_makers x5 = elim x5 [ ]
+    shows Rattle.laws.specs.Relation.same_finishes x6 = elim x6 [ ]
+    shows Rattle.laws.specs.Relation.same_outputs x7 = elim x7 [ ]
+    shows Rattle.laws.specs.Relation.same_sources x8 = elim x8 [ ]
+    shows Rattle.laws.specs.Relation.same_targets x9 = elim x9 [ ]
+    shows Rattle.laws.specs.Relation.same_slots x10 = elim x10 [ ]
+    shows Rattle.laws.specs.Relation.task_counts x11 = elim x11 [ ]
+    shows Rattle.laws.specs.Relation.template_counts x12 = elim x12 [ ]
+    shows Rattle.laws.specs.Relation.fired_has x13 = elim x13 [ ]
+    shows Rattle.laws.specs.Relation.open_has x14 = elim x14 [ ]
+    shows Rattle.laws.specs.Relation.satisfied_agree x15 = elim x15 [ ]
+    shows Rattle.laws.specs.Relation.struck_agree x16 = elim x16 [ ]
+    shows Rattle.laws.specs.Relation.blank_kinds x17 = elim x17 [ ]
+    shows Rattle.laws.specs.Relation.blank_times x18 = elim x18 [ ]
+    shows Rattle.laws.specs.Relation.blank_satisfied x19 = elim x19 [ ]
+    shows Rattle.laws.specs.Relation.blank_has x20 = elim x20 [ ]
+    shows blank_starts x21 = elim x21 [ ]
+    shows blank_ended x22 = elim x22 [ ]
+    shows Rattle.laws.specs.Relation.blank_struck x23 = elim x23 [ ]
 
 -- letting go of holds: what was satisfied stays so, and a doomed block may be destroyed
 module _ (s : Session) (t : ℕ) (which : ℕ → Formula) where
@@ -197,6 +321,33 @@ module _ (s : Session) (t : ℕ) (which : ℕ → Formula) where
       shows : (c : Clause) → Due let_go_fields [] c → says c (let_go s t which) b
       shows slots_agree due = λ h l k d j m. as_full (let_go-marks (at h j)) (r slots_agree h l k d j m)
       shows blocks_destroyed due = λ i k. let_go-block i (b Column.Destroyed i) (r blocks_destroyed i k)
+      shows Rattle.laws.specs.Relation.same_objects x' = elim x' [ ]
+      shows Rattle.laws.specs.Relation.same_links x'' = elim x'' [ ]
+      shows Rattle.laws.specs.Relation.same_kinds x3 = elim x3 [ ]
+      shows Rattle.laws.specs.Relation.same_types x4 = elim x4 [ ]
+      shows Rattle.laws.specs.Relation.same_makers x5 = elim x5 [ ]
+      shows Rattle.laws.specs.Relation.same_finishes x6 = elim x6 [ ]
+      shows Rattle.laws.specs.Relation.same_outputs x7 = elim x7 [ ]
+      shows Rattle.laws.specs.Relation.same_sources x8 = elim x8 [ ]
+      shows Rattle.laws.specs.Relation.same_targets x9 = elim x9 [ ]
+      shows Rattle.laws.specs.Relation.same_slots x10 = elim x10 [ ]
+      shows Rattle.laws.specs.Relation.task_counts x11 = elim x11 [ ]
+      shows Rattle.laws.specs.Relation.template_counts x12 = elim x12 [ ]
+      shows ended_agree x13 = elim x13 [ ]
+      shows starts_agree x14 = elim x14 [ ]
+      shows tasks_destroyed x15 = elim x15 [ ]
+      shows Rattle.laws.specs.Relation.fired_has x16 = elim x16 [ ]
+      shows Rattle.laws.specs.Relation.open_has x17 = elim x17 [ ]
+      shows Rattle.laws.specs.Relation.satisfied_agree x18 = elim x18 [ ]
+      shows Rattle.laws.specs.Relation.struck_agree x19 = elim x19 [ ]
+      shows Rattle.laws.specs.Relation.blank_kinds x20 = elim x20 [ ]
+      shows Rattle.laws.specs.Relation.blank_times x21 = elim x21 [ ]
+      shows Rattle.laws.specs.Relation.blank_satisfied x22 = elim x22 [ ]
+      shows Rattle.laws.specs.Relation.blank_has x23 = elim x23 [ ]
+      shows blank_starts x24 = elim x24 [ ]
+      shows blank_ended x25 = elim x25 [ ]
+      shows blank_destroyed x26 = elim x26 [ ]
+      shows Rattle.laws.specs.Relation.blank_struck x27 = elim x27 [ ]
 
 pub related-release : (s : Session) (b : Book) (caller h : ℕ) → Related s b → Related (release s caller h) b
 unfolding release

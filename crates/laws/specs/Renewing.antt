@@ -87,6 +87,11 @@ module _ (s : Session) (es ps ls : ℕ → ℕ) (n : Renewal s es ps ls) where
       shows : (m : Claimed) → DueOf (claimed_row t j) fire_fields m → Holds (claimed_says t j m (renewed s es ps ls))
       shows waits due = waiting (c waits)
       shows brought due = λ m l b d. let w = n.was_delivered l d.1 in c brought m l b (d.0, w) ∙ sym (n.payload l b w)
+      shows Rattle.laws.specs.Conjuncts.mode_low x'' = elim x'' [ ]
+      shows Rattle.laws.specs.Conjuncts.mode_high x3 = elim x3 [ ]
+      shows Rattle.laws.specs.Conjuncts.mark_high x4 = elim x4 [ ]
+      shows Rattle.laws.specs.Conjuncts.payload x5 = elim x5 [ ]
+      shows Rattle.laws.specs.Conjuncts.empty x6 = elim x6 [ ]
 
   renewed-slot : (t j : ℕ) → Holds (slot s t j) → Holds (slot (renewed s es ps ls) t j)
   unfolding change
@@ -105,6 +110,11 @@ module _ (s : Session) (es ps ls : ℕ → ℕ) (n : Renewal s es ps ls) where
     where
       shows : (m : Linked) → DueOf (link_row l) fire_fields m → Holds (link_says l m (renewed s es ps ls))
       shows agreeing due = n.link l (link_by_name l s x agreeing)
+      shows Rattle.laws.specs.Conjuncts.source_made x3 = elim x3 [ ]
+      shows Rattle.laws.specs.Conjuncts.source_event x4 = elim x4 [ ]
+      shows Rattle.laws.specs.Conjuncts.target_made x5 = elim x5 [ ]
+      shows Rattle.laws.specs.Conjuncts.target_kind x6 = elim x6 [ ]
+      shows Rattle.laws.specs.Conjuncts.has_slot_lem x7 = elim x7 [ ]
 
   renewed-no_link : (l : ℕ) → Holds (no_link s l) → Holds (no_link (renewed s es ps ls) l)
   unfolding change
@@ -134,6 +144,19 @@ module _ (s : Session) (es ps ls : ℕ → ℕ) (n : Renewal s es ps ls) where
         omega arith
     shows free_links due = (renewed-no_link 0 (h free_links).0, λ l b g. renewed-no_link l ((h free_links).1 l b g))
     shows settled due = λ t l j m a p. h settled t l j m a (was-pending t j p)
+    shows Rattle.laws.specs.Rows.counts x' = elim x' [ ]
+    shows Rattle.laws.specs.Rows.kinds x'' = elim x'' [ ]
+    shows Rattle.laws.specs.Rows.template_parts x3 = elim x3 [ ]
+    shows Rattle.laws.specs.Rows.task_parts x4 = elim x4 [ ]
+    shows Rattle.laws.specs.Rows.block_parts x5 = elim x5 [ ]
+    shows Rattle.laws.specs.Rows.roots x6 = elim x6 [ ]
+    shows Rattle.laws.specs.Rows.creators x7 = elim x7 [ ]
+    shows outputs x8 = elim x8 [ ]
+    shows Rattle.laws.specs.Rows.one_link x9 = elim x9 [ ]
+    shows Rattle.laws.specs.Rows.states x10 = elim x10 [ ]
+    shows Rattle.laws.specs.Rows.blocks x11 = elim x11 [ ]
+    shows Rattle.laws.specs.Rows.compatible x12 = elim x12 [ ]
+    shows Rattle.laws.specs.Rows.free_slots x13 = elim x13 [ ]
 
     pub renewed-rest : But (outputs ∷ []) (renewed s es ps ls)
     renewed-rest = kept_by (outputs ∷ []) writes h shows

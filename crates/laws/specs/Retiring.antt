@@ -161,6 +161,22 @@ module _ (s : Session) (t v : ℕ) (x : Retires s t v) where
     shows slots due = marked-slots retire_marks (h slots)
     shows states due = λ i l k. retire_state i (h states i l k)
     shows blocks due = λ b l k. let c = h blocks b l k in (λ e. ((c.0 e).0, still_runs b l k e (c.0 e).1), c.1)
+    shows Rattle.laws.specs.Rows.counts x'' = elim x'' [ ]
+    shows Rattle.laws.specs.Rows.kinds x3 = elim x3 [ ]
+    shows Rattle.laws.specs.Rows.template_parts x4 = elim x4 [ ]
+    shows Rattle.laws.specs.Rows.event_parts x5 = elim x5 [ ]
+    shows Rattle.laws.specs.Rows.block_parts x6 = elim x6 [ ]
+    shows Rattle.laws.specs.Rows.roots x7 = elim x7 [ ]
+    shows outputs x8 = elim x8 [ ]
+    shows Rattle.laws.specs.Rows.links x9 = elim x9 [ ]
+    shows Rattle.laws.specs.Rows.one_link x10 = elim x10 [ ]
+    shows Rattle.laws.specs.Rows.compatible x11 = elim x11 [ ]
+    shows Rattle.laws.specs.Rows.latches x12 = elim x12 [ ]
+    shows Rattle.laws.specs.Rows.counted_events x13 = elim x13 [ ]
+    shows Rattle.laws.specs.Rows.dropped x14 = elim x14 [ ]
+    shows Rattle.laws.specs.Rows.free_slots x15 = elim x15 [ ]
+    shows Rattle.laws.specs.Rows.free_links x16 = elim x16 [ ]
+    shows Rattle.laws.specs.Rows.settled x17 = elim x17 [ ]
 
     -- all rules but that of the outputs
     pub retire_rest : But (outputs ∷ []) (move s t v)

@@ -38,6 +38,26 @@ fire_one_keeps s e p h k o q t n = all (outputs ∷ []) (fire_one-rest s e p (bu
   where
     again : (m : Name) → Excepted (outputs ∷ []) m → Holds (says m (fire_one s e p))
     again outputs due = fire_outputs_beside s (λ i. i ≐ e) (λ i. p) (λ i x. rw x n) (h outputs)
+    again counts x' = elim x' [ ]
+    again Rattle.laws.specs.Rows.kinds x'' = elim x'' [ ]
+    again Rattle.laws.specs.Rows.template_parts x3 = elim x3 [ ]
+    again Rattle.laws.specs.Rows.task_parts x4 = elim x4 [ ]
+    again event_parts x5 = elim x5 [ ]
+    again Rattle.laws.specs.Rows.block_parts x6 = elim x6 [ ]
+    again Rattle.laws.specs.Rows.roots x7 = elim x7 [ ]
+    again Rattle.laws.specs.Rows.creators x8 = elim x8 [ ]
+    again Rattle.laws.specs.Rows.slots x9 = elim x9 [ ]
+    again Rattle.laws.specs.Rows.links x10 = elim x10 [ ]
+    again Rattle.laws.specs.Rows.one_link x11 = elim x11 [ ]
+    again Rattle.laws.specs.Rows.states x12 = elim x12 [ ]
+    again Rattle.laws.specs.Rows.blocks x13 = elim x13 [ ]
+    again Rattle.laws.specs.Rows.compatible x14 = elim x14 [ ]
+    again latches x15 = elim x15 [ ]
+    again Rattle.laws.specs.Rows.counted_events x16 = elim x16 [ ]
+    again Rattle.laws.specs.Rows.dropped x17 = elim x17 [ ]
+    again Rattle.laws.specs.Rows.free_slots x18 = elim x18 [ ]
+    again Rattle.laws.specs.Rows.free_links x19 = elim x19 [ ]
+    again Rattle.laws.specs.Rows.settled x20 = elim x20 [ ]
 
 -- an open latch with another count
 module _ (s : Session) (e n : ℕ) (h : Kept s) (kind : s Kind e ≡ event) (type : s EventType e ≡ latch)
@@ -56,6 +76,13 @@ module _ (s : Session) (e n : ℕ) (h : Kept s) (kind : s Kind e ≡ event) (typ
           shows : (m : Event) → DueOf (event_row i) (EventTally ∷ []) m → Holds (event_says i m (put s EventTally e n))
           shows tally_high due = rw (put-here s EventTally e i n q) fits
           shows tally_kind due = inl (rw (← q) type)
+          shows Rattle.laws.specs.Conjuncts.is_event x3 = elim x3 [ ]
+          shows Rattle.laws.specs.Conjuncts.state_low x4 = elim x4 [ ]
+          shows Rattle.laws.specs.Conjuncts.state_high x5 = elim x5 [ ]
+          shows Rattle.laws.specs.Conjuncts.type_known x6 = elim x6 [ ]
+          shows Rattle.laws.specs.Conjuncts.has_payload x7 = elim x7 [ ]
+          shows Rattle.laws.specs.Conjuncts.paid x8 = elim x8 [ ]
+          shows Rattle.laws.specs.Conjuncts.count_fits x9 = elim x9 [ ]
 
   -- a latch that has fired is another
   late : (i : ℕ) → s EventTally i ≡ even_tally → s EventState i ≡ fired ⊎ s EventState i ≡ destroyed_fired
@@ -74,6 +101,25 @@ module _ (s : Session) (e n : ℕ) (h : Kept s) (kind : s Kind e ≡ event) (typ
   unfolding put
   shows event_parts due = λ i l. tally-part i (h event_parts i l)
   shows latches due = λ i l x. late i (h latches i l x) x.1.1
+  shows counts x' = elim x' [ ]
+  shows Rattle.laws.specs.Rows.kinds x'' = elim x'' [ ]
+  shows Rattle.laws.specs.Rows.template_parts x3 = elim x3 [ ]
+  shows Rattle.laws.specs.Rows.task_parts x4 = elim x4 [ ]
+  shows Rattle.laws.specs.Rows.block_parts x5 = elim x5 [ ]
+  shows Rattle.laws.specs.Rows.roots x6 = elim x6 [ ]
+  shows Rattle.laws.specs.Rows.creators x7 = elim x7 [ ]
+  shows outputs x8 = elim x8 [ ]
+  shows Rattle.laws.specs.Rows.slots x9 = elim x9 [ ]
+  shows Rattle.laws.specs.Rows.links x10 = elim x10 [ ]
+  shows Rattle.laws.specs.Rows.one_link x11 = elim x11 [ ]
+  shows Rattle.laws.specs.Rows.states x12 = elim x12 [ ]
+  shows Rattle.laws.specs.Rows.blocks x13 = elim x13 [ ]
+  shows Rattle.laws.specs.Rows.compatible x14 = elim x14 [ ]
+  shows Rattle.laws.specs.Rows.counted_events x15 = elim x15 [ ]
+  shows Rattle.laws.specs.Rows.dropped x16 = elim x16 [ ]
+  shows Rattle.laws.specs.Rows.free_slots x17 = elim x17 [ ]
+  shows Rattle.laws.specs.Rows.free_links x18 = elim x18 [ ]
+  shows Rattle.laws.specs.Rows.settled x19 = elim x19 [ ]
 
   tally_keeps : Kept (put s EventTally e n)
   tally_keeps = kept_by [] writes h shows

@@ -146,6 +146,23 @@ module _ (s : Session) (caller n finish out : ℕ) where
         λ _. inr (rw maker (runs.0.0, ((let l = runs.0.1 in omega arith), (old_kind, inl old_state))))
     shows states due = λ _. state_of (next s) after task-state
     shows settled due = λ j l y. absurd (let z = unmarked j l in omega arith)
+    shows Rattle.laws.specs.Rows.counts x' = elim x' [ ]
+    shows Rattle.laws.specs.Rows.kinds x'' = elim x'' [ ]
+    shows Rattle.laws.specs.Rows.template_parts x3 = elim x3 [ ]
+    shows Rattle.laws.specs.Rows.event_parts x4 = elim x4 [ ]
+    shows Rattle.laws.specs.Rows.block_parts x5 = elim x5 [ ]
+    shows Rattle.laws.specs.Rows.roots x6 = elim x6 [ ]
+    shows outputs x7 = elim x7 [ ]
+    shows Rattle.laws.specs.Rows.slots x8 = elim x8 [ ]
+    shows Rattle.laws.specs.Rows.links x9 = elim x9 [ ]
+    shows Rattle.laws.specs.Rows.one_link x10 = elim x10 [ ]
+    shows Rattle.laws.specs.Rows.blocks x11 = elim x11 [ ]
+    shows Rattle.laws.specs.Rows.compatible x12 = elim x12 [ ]
+    shows Rattle.laws.specs.Rows.latches x13 = elim x13 [ ]
+    shows Rattle.laws.specs.Rows.counted_events x14 = elim x14 [ ]
+    shows Rattle.laws.specs.Rows.dropped x15 = elim x15 [ ]
+    shows Rattle.laws.specs.Rows.free_slots x16 = elim x16 [ ]
+    shows Rattle.laws.specs.Rows.free_links x17 = elim x17 [ ]
 
     -- whom the new task follows was busy: its creator is live
     quiet : (i : ℕ) → s TaskState i ≡ ended → Holds (follows s after i) → Holds (busy s i)
@@ -184,6 +201,26 @@ module _ (s : Session) (caller n finish out : ℕ) where
 
           again : (m : Name) → Excepted (outputs ∷ []) m → Holds (says m after)
           again outputs due = made-outputs (born room) h old_outputs here
+          again Rattle.laws.specs.Rows.counts x' = elim x' [ ]
+          again Rattle.laws.specs.Rows.kinds x'' = elim x'' [ ]
+          again Rattle.laws.specs.Rows.template_parts x3 = elim x3 [ ]
+          again task_parts x4 = elim x4 [ ]
+          again Rattle.laws.specs.Rows.event_parts x5 = elim x5 [ ]
+          again Rattle.laws.specs.Rows.block_parts x6 = elim x6 [ ]
+          again Rattle.laws.specs.Rows.roots x7 = elim x7 [ ]
+          again creators x8 = elim x8 [ ]
+          again Rattle.laws.specs.Rows.slots x9 = elim x9 [ ]
+          again Rattle.laws.specs.Rows.links x10 = elim x10 [ ]
+          again Rattle.laws.specs.Rows.one_link x11 = elim x11 [ ]
+          again states x12 = elim x12 [ ]
+          again Rattle.laws.specs.Rows.blocks x13 = elim x13 [ ]
+          again Rattle.laws.specs.Rows.compatible x14 = elim x14 [ ]
+          again Rattle.laws.specs.Rows.latches x15 = elim x15 [ ]
+          again Rattle.laws.specs.Rows.counted_events x16 = elim x16 [ ]
+          again Rattle.laws.specs.Rows.dropped x17 = elim x17 [ ]
+          again Rattle.laws.specs.Rows.free_slots x18 = elim x18 [ ]
+          again Rattle.laws.specs.Rows.free_links x19 = elim x19 [ ]
+          again settled x20 = elim x20 [ ]
 
       abbrev both : Session
       both = new_event after (next s + 1) output 0
@@ -264,6 +301,26 @@ module _ (s : Session) (caller n finish out : ℕ) where
 
             again : (m : Name) → Excepted (outputs ∷ []) m → Holds (says m both)
             again outputs due = made-outputs output_born rest-after (each_more _ (next s) old at-task) (at-event e)
+            again Rattle.laws.specs.Rows.counts x' = elim x' [ ]
+            again Rattle.laws.specs.Rows.kinds x'' = elim x'' [ ]
+            again Rattle.laws.specs.Rows.template_parts x3 = elim x3 [ ]
+            again task_parts x4 = elim x4 [ ]
+            again Rattle.laws.specs.Rows.event_parts x5 = elim x5 [ ]
+            again Rattle.laws.specs.Rows.block_parts x6 = elim x6 [ ]
+            again Rattle.laws.specs.Rows.roots x7 = elim x7 [ ]
+            again creators x8 = elim x8 [ ]
+            again Rattle.laws.specs.Rows.slots x9 = elim x9 [ ]
+            again Rattle.laws.specs.Rows.links x10 = elim x10 [ ]
+            again Rattle.laws.specs.Rows.one_link x11 = elim x11 [ ]
+            again states x12 = elim x12 [ ]
+            again Rattle.laws.specs.Rows.blocks x13 = elim x13 [ ]
+            again Rattle.laws.specs.Rows.compatible x14 = elim x14 [ ]
+            again Rattle.laws.specs.Rows.latches x15 = elim x15 [ ]
+            again Rattle.laws.specs.Rows.counted_events x16 = elim x16 [ ]
+            again Rattle.laws.specs.Rows.dropped x17 = elim x17 [ ]
+            again Rattle.laws.specs.Rows.free_slots x18 = elim x18 [ ]
+            again Rattle.laws.specs.Rows.free_links x19 = elim x19 [ ]
+            again settled x20 = elim x20 [ ]
 
       make_keeps : s Objects 0 + (1 + out) ≤ most_objects → Kept (make_task s caller n finish out)
       unfolding make_task

@@ -49,6 +49,26 @@ module _ (s : Session) (n : ℕ) where
       let e = state in
       let c = count in
       inl (kind, (omega arith, (omega arith, omega arith)))
+  shows l Rattle.laws.specs.Rows.counts x' = elim x' [ ]
+  shows l Rattle.laws.specs.Rows.kinds x'' = elim x'' [ ]
+  shows l Rattle.laws.specs.Rows.task_parts x3 = elim x3 [ ]
+  shows l Rattle.laws.specs.Rows.event_parts x4 = elim x4 [ ]
+  shows l Rattle.laws.specs.Rows.block_parts x5 = elim x5 [ ]
+  shows l Rattle.laws.specs.Rows.roots x6 = elim x6 [ ]
+  shows l Rattle.laws.specs.Rows.creators x7 = elim x7 [ ]
+  shows l Rattle.laws.specs.Rows.outputs x8 = elim x8 [ ]
+  shows l Rattle.laws.specs.Rows.slots x9 = elim x9 [ ]
+  shows l Rattle.laws.specs.Rows.links x10 = elim x10 [ ]
+  shows l Rattle.laws.specs.Rows.one_link x11 = elim x11 [ ]
+  shows l Rattle.laws.specs.Rows.states x12 = elim x12 [ ]
+  shows l Rattle.laws.specs.Rows.blocks x13 = elim x13 [ ]
+  shows l Rattle.laws.specs.Rows.compatible x14 = elim x14 [ ]
+  shows l Rattle.laws.specs.Rows.latches x15 = elim x15 [ ]
+  shows l Rattle.laws.specs.Rows.counted_events x16 = elim x16 [ ]
+  shows l Rattle.laws.specs.Rows.dropped x17 = elim x17 [ ]
+  shows l Rattle.laws.specs.Rows.free_slots x18 = elim x18 [ ]
+  shows l Rattle.laws.specs.Rows.free_links x19 = elim x19 [ ]
+  shows l Rattle.laws.specs.Rows.settled x20 = elim x20 [ ]
 
 pub template_keeps : (s : Session) (caller n : ℕ) → Checked (template_checks s caller n) → Kept s → Kept (new_template s n)
 template_keeps s caller n m h =

@@ -6,7 +6,7 @@
 mod counted;
 mod finding;
 mod holders;
-mod Holds;
+mod holds;
 mod objects;
 
 ghost use Rattle.std.specs.Prelude.{◌≡◌, ◌≤◌, length};
@@ -17,7 +17,7 @@ ghost use Rattle.session.specs.Lent.{was};
 pub use counted::{has_its_count, serves_last};
 pub use finding::find;
 pub use holders::next_holder;
-pub use Holds::{holds_block, is_held};
+pub use holds::{holds_block, is_held};
 pub use objects::{
     drops, has_event_slot, has_slot, is_fired_sticky, is_full, is_gone, is_kind, is_live, is_made,
     is_running, is_undelivered, is_user_event, overflows, task_slots,
