@@ -67,7 +67,7 @@ abbrev asked-12 : tie.Else10 → List Check
 asked-12 c = asked-11 c.before.before
 
 past_12 : (c : tie.Else10) → Left (asked-12 c) 12
-past_12 c = past_11 c.before.before ∙ skip _ _ _ (yes_not _ c.before.has_slot_lem.ensures c.if10.false)
+past_12 c = past_11 c.before.before ∙ skip _ _ _ (yes_not _ c.before.has_slot.ensures c.if10.false)
 
 abbrev asked-13 : tie.Else11 → List Check
 asked-13 c = asked-12 c.before.before
@@ -136,7 +136,7 @@ has-slot-requires c κs =
     (search rules, yes_not _ d.before.is-destination.ensures d.if7.false)
 
 returns-10 : tie.Need-returns-10
-returns-10 c = stops _ _ _ (past_11 c.before.before) (no_not _ c.before.has_slot_lem.ensures c.if10.true)
+returns-10 c = stops _ _ _ (past_11 c.before.before) (no_not _ c.before.has_slot.ensures c.if10.true)
 
 is-unclaimed-requires : tie.Need-is-unclaimed-requires
 is-unclaimed-requires c κs = search rules

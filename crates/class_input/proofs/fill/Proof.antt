@@ -21,7 +21,7 @@ slice-relend-prefix-read c = search rules
 slice-aggregate-read : tie.Need-slice-aggregate-read
 slice-aggregate-read c =
     let s = c.before.before.before.before.before in
-    sym (length-take-le _ _ (omega (arith, s.requires.0, c.before.may_read_lem.ensures.1)))
+    sym (length-take-le _ _ (omega (arith, s.requires.0, c.before.may_read.ensures.1)))
 
 read-requires : tie.Need-read-requires
 read-requires c κs = search rules
@@ -41,7 +41,7 @@ same_length c = search rules
 returns-2 : tie.Need-returns-2
 returns-2 c =
     let s = c.before.before.before.before.before.before.before.before.before.before in
-    let most = c.before.before.before.before.before.before.may_read_lem in
+    let most = c.before.before.before.before.before.before.may_read in
     let few : c.count.result ≤ most.result = omega (arith, c.count.ensures.0.0, slice-aggregate-count c.before) in
     filled-new s.args.window s.args.left s.args.input.now _ c.count.result
     (λ h. omega (arith, h, c.before.before.before.before.before.before.before.if1.false))

@@ -65,7 +65,7 @@ slice-aggregate-read-asked-2 c = search rules
 read-asked-requires : tie.Need-read-asked-requires invariant-loop decreases-loop
 read-asked-requires c κs =
     let i = c.before.before.before.before.loop.invariant in
-    ((i.6, i.7, i.8), (i.2, i.5, c.before.before.free_half_lem.ensures))
+    ((i.6, i.7, i.8), (i.2, i.5, c.before.before.free_half.ensures))
 
 slice-aggregate-gather : tie.Need-slice-aggregate-gather invariant-loop decreases-loop
 slice-aggregate-gather c = search rules
@@ -119,7 +119,7 @@ loop-again c =
     let i = at-free-half.before.before.loop.inv in
     let r = at-read-asked.read_asked.ensures in
     let e = g.0 in
-    let h = step_half _ _ _ _ _ _ e (r.long ∙ i.2) at-free-half.free_half_lem.ensures i.5 in
+    let h = step_half _ _ _ _ _ _ e (r.long ∙ i.2) at-free-half.free_half.ensures i.5 in
     let a = stepped_ahead _ _ _ _ _ _ e _ r.inside r.few in
     (g.1.1.0, search rules, search rules, search rules, c.write-full.ensures, h, search rules, r.window, a)
 

@@ -33,7 +33,7 @@ same_length c = search rules
 
 returns : tie.Need-returns
 unfolding puts
-returns c = rw (c.is_held_lem.ensures, c.before.sheet-held.ensures) refl
+returns c = rw (c.is_held.ensures, c.before.sheet-held.ensures) refl
 
 pub write-pending-spec : {M : Type 1} → statement M
 write-pending-spec =

@@ -58,7 +58,7 @@ returns : tie.Need-returns
 unfolding words_of puts
 returns c =
     let a = c.before.before.before.before.before.before.before.before.args in
-    rw (c.before.before.write-pending.ensures, c.before.before.before.before.code_of_lem.ensures)
+    rw (c.before.before.write-pending.ensures, c.before.before.before.before.code_of.ensures)
     (puts-splice a.state.now 0 (words_of a.place a.report) (omega arith))
 
 pub write-report-spec : {M : Type 1} → statement M

@@ -43,7 +43,7 @@ returns c =
     let k = c.before.before.before.before.before.before.before.before.before in
     let a = k.before.before.before.args in
     let claimed = c.before.before.before.before.before.before.before.claim in
-    let made = c.before.before.new_link_lem in
+    let made = c.before.before.new_link in
     let kind = rw k.get.ensures at c.before.before.before.before.if1.true in
     record {
       wrote = rw (choose_yes _ _ _ kind)

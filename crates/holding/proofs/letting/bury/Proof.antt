@@ -19,7 +19,7 @@ same_length c = search rules
 
 returns : tie.Need-returns
 returns c =
-    rw (bury_no _ _ (λ x. x.1 (passed _ (sym c.before.is_held_lem.ensures ∙ c.if2.true)))) (wrote_none _)
+    rw (bury_no _ _ (λ x. x.1 (passed _ (sym c.before.is_held.ensures ∙ c.if2.true)))) (wrote_none _)
 
 set-requires : tie.Need-set-requires
 set-requires c κs = search rules
@@ -32,7 +32,7 @@ returns-2 c =
     let f = c.before.before in
     let h = f.before.before.before in
     rw (bury_yes _ _ (sym h.before.before.before.get.ensures ∙ h.before.before.if1.true)
-    (failed _ (sym h.is_held_lem.ensures ∙ f.before.before.if2.false))) f.set.ensures
+    (failed _ (sym h.is_held.ensures ∙ f.before.before.if2.false))) f.set.ensures
 
 same-length-3 : tie.Need-same-length-3
 same-length-3 c = search rules

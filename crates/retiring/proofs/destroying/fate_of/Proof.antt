@@ -11,11 +11,11 @@ is-held-requires c κs = search rules
 
 returns : tie.Need-returns
 unfolding fate
-returns c = sym (choose_yes _ _ _ (passed _ (sym c.before.is_held_lem.ensures ∙ c.if1.true)))
+returns c = sym (choose_yes _ _ _ (passed _ (sym c.before.is_held.ensures ∙ c.if1.true)))
 
 returns-2 : tie.Need-returns-2
 unfolding fate
-returns-2 c = sym (choose_no _ _ _ (failed _ (sym c.before.is_held_lem.ensures ∙ c.if1.false)))
+returns-2 c = sym (choose_no _ _ _ (failed _ (sym c.before.is_held.ensures ∙ c.if1.false)))
 
 pub fate-of-spec : {M : Type 1} → statement M
 fate-of-spec = tie.close (tie.spec is-held-requires returns returns-2)

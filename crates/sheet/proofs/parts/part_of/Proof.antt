@@ -23,7 +23,7 @@ returns-2 : tie.Need-returns-2
 returns-2 c =
     let at-if1 = c.before.before.before.before in
     let a = at-if1.before.before.before.before.args in
-    going_last a.memory.now a.lines.now a.run _ _ at-if1.if1.false c.before.before.last_part_lem.ensures
+    going_last a.memory.now a.lines.now a.run _ _ at-if1.if1.false c.before.before.last_part.ensures
 
 pub part-of-spec : {M : Type 1} → statement M
 part-of-spec = tie.close (tie.spec sub-t5 returns last-part-requires same_length returns-2)

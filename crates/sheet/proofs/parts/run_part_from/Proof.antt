@@ -62,7 +62,7 @@ returns-2 c =
     let s = at-enum-told.before.before.before.before.before in
     rw at-enum-told.enum_told.given.1
     (last_part_lem s.args.sheet.now s.args.memory.now s.args.lines.now s.well-formed.0.0 s.requires.0.1 _ _
-    c.before.before.last_part_lem.ensures)
+    c.before.before.last_part.ensures)
 
 returns-3 : tie.Need-returns-3
 returns-3 c =

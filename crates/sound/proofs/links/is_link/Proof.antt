@@ -40,7 +40,7 @@ returns c =
       c.of-object2.ensures,
       c.before.is-made2.ensures,
       c.before.before.does-link-agree.ensures,
-      c.before.before.before.has_slot_lem.ensures,
+      c.before.before.before.has_slot.ensures,
       c.before.before.before.before.is_made.ensures,
       c.before.before.before.before.before.is-user-event.ensures,
       c.before.before.before.before.before.before.of-object.ensures,

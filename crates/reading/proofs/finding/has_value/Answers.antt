@@ -1,0 +1,25 @@
+-- `reading::finding::has_value` meets its contract: none of the first k of the eight places has v, so one that has decides
+-- (`passes`), and after eight there is none (`fails`).
+use Prim.Native.Nat.{ℕ, ◌≤◌, ◌<◌, ◌+◌, ◌-◌}
+use mathlib.Core.Path.{◌≡◌, sym, ◌∙◌}
+use native.Mathlib.Omega.{arith}
+use borrow.Author.Count.{below_more}
+use Rattle.session.specs.Table.{read}
+use Rattle.rules.specs.FormulaLaws.{passes, fails}
+use Rattle.reading.proofs.finding.has_value.Goals as goal
+
+pub loop-k-init : goal.loop-k-init
+loop-k-init c = (omega arith, λ i a q. absurd (omega arith))
+
+pub returns-then-get-v : goal.returns-then-get-v
+returns-then-get-v c =
+    let l = c.loop-k in
+    sym (passes _ (l.k, omega arith, sym c.get.ensures ∙ c.if-get-v.true))
+
+pub loop-k-preserved : goal.loop-k-preserved
+loop-k-preserved c =
+    let i = c.loop-k.invariant in
+    (omega arith, below_more _ _ i.1 (λ x. c.if-get-v.false (c.get.ensures ∙ x)))
+
+pub returns : goal.returns
+returns c = let l = c.loop-k in sym (fails _ (λ x. l.invariant.1 x.0 (let y = x.1 in omega arith) x.2))
