@@ -6,7 +6,7 @@ use Rattle.session.specs.Table.{Session, read}
 use Rattle.session.specs.TableLaws.{read_past}
 use Rattle.session.specs.declared.Field.TheVariants.{Kind, EventType}
 use Rattle.session.specs.Names.{event, latch, output, object_places}
-use Rattle.rules.specs.Formula.{Formula, Holds, test, Formula.◌≐◌, Formula.◌and◌, Formula.◌or◌}
+use Rattle.rules.specs.Formula.{Holds, test, Formula.◌≐◌, Formula.◌and◌, Formula.◌or◌}
 use Rattle.rules.specs.Formula.{not as none}
 use Rattle.rules.specs.FormulaLaws.{test-same}
 use Rattle.rules.specs.Bools.{test-both, test_either, test_eq, test-not}

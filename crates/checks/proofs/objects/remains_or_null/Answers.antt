@@ -1,0 +1,12 @@
+-- `checks::objects::remains_or_null` meets its contract: null is the first side of the `or`, and of any other the denial of
+-- `is_gone` decides (`beside`, `otherwise`).
+use Rattle.reading.specs.TestLaws.{beside, otherwise, right}
+use mathlib.Core.Logic.{inl}
+use native.Mathlib.Omega.{arith}
+use Rattle.checks.proofs.objects.remains_or_null.Goals as goal
+
+pub returns-then-h-eq0 : goal.returns-then-h-eq0
+returns-then-h-eq0 c = right _ (inl (omega arith))
+
+pub returns : goal.returns
+returns c = beside _ _ (λ x. omega arith) (otherwise _ c.is_gone.ensures)

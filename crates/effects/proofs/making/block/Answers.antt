@@ -1,0 +1,19 @@
+-- `effects::making::block` meets its contract: what `new_object` wrote and the three words put behind it (`wrote_more`) are
+-- `new_block`; the answer is `next_object`'s.
+use Rattle.session.specs.TableLaws.{wrote_more}
+use Rattle.session.specs.declared.Field.TheVariants.{BlockState, BlockCreator, BlockHeld}
+use Rattle.rules.specs.Effects.{new_block}
+use Rattle.effects.proofs.making.block.Goals as goal
+
+pub returns : goal.returns
+unfolding new_block
+returns c =
+    let next = c.next_object-h in
+    record {
+      wrote = rw (← next.ensures)
+          (wrote_more BlockHeld _ _
+          (wrote_more BlockCreator _ _ (wrote_more BlockState _ _ c.new_object.ensures
+          c.set.ensures) c.set-2.ensures)
+          c.set-3.ensures);
+      answer = next.ensures;
+    }

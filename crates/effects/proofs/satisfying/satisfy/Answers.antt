@@ -1,0 +1,7 @@
+-- `effects::satisfying::satisfy` meets its contract: a sound session that meets the checks is one whose event may be triggered
+-- (`satisfy-ready`), and the rest is `satisfy_event`'s.
+use Rattle.effects.specs.Ready.{satisfy-ready}
+use Rattle.effects.proofs.satisfying.satisfy.Goals as goal
+
+pub satisfy_event-requires : goal.satisfy_event-requires
+satisfy_event-requires c = let p = c.requires in (p.0, satisfy-ready _ _ _ _ _ p.1 p.2)
