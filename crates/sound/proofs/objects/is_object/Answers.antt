@@ -1,0 +1,16 @@
+-- `sound::objects::is_object` meets its contract: the kind's range, and the answers of the four parts (`simp` with Bools).
+use Rattle.rules.specs.Bools.{test_implies, test-both, test_le}
+use Rattle.sound.proofs.objects.is_object.Goals as goal
+
+pub returns : goal.returns
+returns c =
+    simp (
+      c.block_part.ensures,
+      c.event_part.ensures,
+      c.task_part.ensures,
+      c.template_part.ensures,
+      c.of_object-kind.ensures,
+      test_implies,
+      test-both,
+      test_le,
+    )
