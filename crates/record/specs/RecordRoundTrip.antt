@@ -13,7 +13,7 @@ use Rattle.rules.specs.Checks.{refusal}
 use Rattle.rules.specs.Formula.{Holds, Formula.◌≐◌, Formula.◌≼◌}
 use Rattle.rules.specs.FormulaLaws.{choose_yes}
 use Rattle.rules.specs.Step.{arg}
-use Rattle.record.specs.RecordReading.{place, nth, five, operation, operation_at, code_at, first_field, count_at, record_checks}
+use Rattle.record.specs.RecordReading.{place, nth, five, operation_at, code_at, first_field, count_at, record_checks}
 use Rattle.record.specs.RecordReading.{record_in}
 use Rattle.record.specs.Refusals.{refusal_none, refusal-most, answered-number}
 use Rattle.record.specs.Fields.{five-same, five-at, field_bytes-same, field_bytes-length, AllRead, fields_back, fields-onward}

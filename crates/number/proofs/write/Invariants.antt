@@ -1,0 +1,16 @@
+-- `number::write` meets its contract: the bytes of the rest, put from the place on, give what the value's bytes give.
+use mathlib.Core.Path.{◌≡◌}
+use Prim.Native.Nat.{◌≤◌, ◌+◌}
+use lib.ListN.{length}
+use Rattle.number.specs.Number.{encode, splice}
+use Rattle.number.proofs.write.Given as goal
+
+abbrev pub invariant-loop-rest : goal.invariant-loop-rest
+invariant-loop-rest l =
+    (length l.out ≡ length l.initial.out)
+    × (l.used + length (encode l.v) ≤ length l.initial.out)
+    × (l.at + length (encode l.rest) ≡ l.used + length (encode l.v))
+    × (splice l.out l.at (encode l.rest) ≡ splice l.initial.out l.used (encode l.v))
+
+abbrev pub decreases-loop-rest : goal.decreases-loop-rest
+decreases-loop-rest l = l.rest

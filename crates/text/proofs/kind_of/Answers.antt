@@ -1,0 +1,29 @@
+-- `text::kind_of` meets its contract: each arm has its law.
+use mathlib.Core.Path.{sym}
+use native.Mathlib.Omega.{arith}
+use Rattle.text.specs.TextLaws.{Plain, kind_newline, kind_blank, kind_hash, kind_digit, kind_other}
+use Rattle.text.proofs.kind_of.Goals as goal
+
+pub returns-in-10 : goal.returns-in-10
+returns-in-10 c = sym (kind_newline _ c.in-10.is)
+
+pub returns-in-9 : goal.returns-in-9
+returns-in-9 c = sym (kind_blank _ c.in-9.is)
+
+pub returns-in-35 : goal.returns-in-35
+returns-in-35 c = sym (kind_hash _ c.in-35.is)
+
+pub returns-in-48-to-57 : goal.returns-in-48-to-57
+returns-in-48-to-57 c = sym (kind_digit _ (omega arith) (omega arith))
+
+pub returns-in_default : goal.returns-in_default
+returns-in_default c =
+    let plain : Plain c.args.b =
+    let r = c.in_default.in_default-own.rest in let blank = r.0 in record { no_newline = blank.0.1; no_blank = blank.1; no_hash = r.1 } in
+    sym (kind_other _ (plain) (λ h. omega arith))
+
+pub returns-in_default-2 : goal.returns-in_default-2
+returns-in_default-2 c =
+    let plain : Plain c.args.b =
+    let r = c.in_default.in_default-own.rest in let blank = r.0 in record { no_newline = blank.0.1; no_blank = blank.1; no_hash = r.1 } in
+    sym (kind_other _ (plain) (λ h. omega arith))
