@@ -14,53 +14,41 @@ use Rattle.retiring.specs.RetiringParts.{retirable, ending, output_fired, tidy_o
 use Rattle.retiring.specs.RetiringParts.{end-parts, ended-over}
 use Rattle.retiring.specs.Climb.{only_above, own-ending, own-fired}
 use Rattle.retiring.specs.Steps.{climbed-fired}
-use borrow.Author.Rules.{rules}
-use Rattle.retiring.proofs.ending.end.Statement.{statement}
-use Rattle.retiring.proofs.ending.end.Tie as tie
+use Rattle.retiring.proofs.ending.end.Goals as goal
 
-let-go-all-requires : tie.Need-let-go-all-requires
-let-go-all-requires c κs =
-    let x = c.before.before in
-    let ws = x.args.s.now in
-    let good = x.requires.1 in
-    let r = retirable ws x.args.t good x.requires.2.0.0 in
-    (x.requires.0, r.tidy.frame.few, r.handle, unheld ws good, unmarked ws good, active ws good)
+pub let_go_all-requires : goal.let_go_all-requires
+let_go_all-requires c =
+    let ws = c.args.s.now in
+    let good = c.requires.1 in
+    let r = retirable ws c.args.t good c.requires.2.0.0 in
+    (c.requires.0, r.tidy.frame.few, r.handle, unheld ws good, unmarked ws good, active ws good)
 
-set-requires : tie.Need-set-requires
-set-requires c κs =
-    let f = c.before.before.before in
-    let x = f.before.before.before in
-    let r = retirable x.args.s.now x.args.t x.requires.1 x.requires.2.0.0 in
-    omega (arith, r.handle, x.requires.0, f.let-go-all.ensures.same_length)
+pub set-requires : goal.set-requires
+set-requires c =
+    let r = retirable c.args.s.now c.args.t c.requires.1 c.requires.2.0.0 in
+    omega (arith, r.handle, c.requires.0, c.let_go_all.ensures.same_length)
 
-fire-output-requires : tie.Need-fire-output-requires
-fire-output-requires c κs =
-    let g = c.before.before.before in
-    let f = g.before.before.before.before in
-    let x = f.before.before.before in
-    let p = x.requires in
-    let a = x.args in
+pub fire_output-requires : goal.fire_output-requires
+fire_output-requires c =
+    let p = c.requires in
+    let a = c.args in
     let q = retirable a.s.now a.t p.1 p.2.0.0 in
     let s = read a.s.now in
-    let w = wrote_next (λ r. put r TaskState a.t ended) f.let-go-all.ensures g.set.ensures in (
+    let w = wrote_next (λ r. put r TaskState a.t ended) c.let_go_all.ensures c.set.ensures in (
       omega (arith, w.same_length, p.0),
       q.handle,
       rw (← w.reading) at (tidy_ending s a.t q.tidy),
       rw (← w.reading) at (low_ending s a.t q.low),
     )
 
-fire-finished-requires : tie.Need-fire-finished-requires
-fire-finished-requires c κs =
-    let h = c.before.before.before in
-    let g = h.before.before.before.before in
-    let f = g.before.before.before.before in
-    let x = f.before.before.before in
-    let p = x.requires in
-    let a = x.args in
+pub fire_finished-requires : goal.fire_finished-requires
+fire_finished-requires c =
+    let p = c.requires in
+    let a = c.args in
     let q = retirable a.s.now a.t p.1 p.2.0.0 in
     let s = read a.s.now in
     let w = wrote_next (λ r. output_fired r a.t a.b)
-    (wrote_next (λ r. put r TaskState a.t ended) f.let-go-all.ensures g.set.ensures) h.fire-output.ensures in
+    (wrote_next (λ r. put r TaskState a.t ended) c.let_go_all.ensures c.set.ensures) c.fire_output.ensures in
     let own = own-fired s a.t (ending s a.t) (own-ending s a.t) a.b in (
       omega (arith, w.same_length, p.0),
       rw (← w.reading) at (tidy_output_fired (ending s a.t) a.t a.b (tidy_ending s a.t q.tidy)),
@@ -70,35 +58,17 @@ fire-finished-requires c κs =
           (only_above s (output_fired (ending s a.t) a.t a.b) a.t q.tidy q.outputs own p.2.0.0),
     )
 
-same_length : tie.Need-same-length
-same_length c = search rules
-
-returns : tie.Need-returns
+pub returns : goal.returns
 returns c =
-    let k = c.before.before in
-    let h = k.before.before.before.before in
-    let g = h.before.before.before.before in
-    let f = g.before.before.before.before in
-    let a = f.before.before.before.args in
+    let a = c.args in
     let s = read a.s.now in
     let q = output_fired (ending s a.t) a.t a.b in
     let w = wrote_next (λ r. output_fired r a.t a.b)
-    (wrote_next (λ r. put r TaskState a.t ended) f.let-go-all.ensures g.set.ensures) h.fire-output.ensures in
-    let made = k.fire-finished.ensures in
+    (wrote_next (λ r. put r TaskState a.t ended) c.let_go_all.ensures c.set.ensures) c.fire_output.ensures in
+    let made = c.fire_finished.ensures in
     record {
       wrote = rw (← end-parts s a.t a.b) (wrote_next fire_finished w made.wrote);
       answer =
           made.answer ∙ ap (λ (r : Session). climbed r a.t) w.reading ∙ sym (climbed-fired q a.t)
           ∙ ap (λ (r : Session). climbed r a.t) (end-parts s a.t a.b);
     }
-
-pub end-spec : {M : Type 1} → statement M
-end-spec =
-    tie.close
-    (tie.spec
-    let-go-all-requires
-    set-requires
-    fire-output-requires
-    fire-finished-requires
-    same_length
-    returns)

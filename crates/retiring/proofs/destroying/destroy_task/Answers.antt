@@ -15,21 +15,14 @@ use Rattle.retiring.specs.RetiringParts.{destroyed_over}
 use Rattle.retiring.specs.Climb.{only_above, own-state, own_destroyed, childless_own}
 use Rattle.laws.specs.DestroyedClimbs.{childless_idle}
 use Rattle.retiring.specs.Steps.{climbed-fired}
-use borrow.Author.Rules.{rules}
-use Rattle.retiring.proofs.destroying.destroy_task.Statement.{statement}
-use Rattle.retiring.proofs.destroying.destroy_task.Tie as tie
+use Rattle.retiring.proofs.destroying.destroy_task.Goals as goal
 
-set-requires : tie.Need-set-requires
-set-requires c κs = search rules
-
-destroy-output-requires : tie.Need-destroy-output-requires
-destroy-output-requires c κs =
-    let f = c.before.before.before in
-    let x = f.before.before.before in
-    let p = x.requires in
-    let a = x.args in
+pub destroy_output-requires : goal.destroy_output-requires
+destroy_output-requires c =
+    let p = c.requires in
+    let a = c.args in
     let s = read a.s.now in
-    let w = f.set.ensures in (
+    let w = c.set.ensures in (
       omega (arith, w.same_length, p.0),
       p.1,
       rw (← w.reading) at (tidy_state s p.2 a.t task_destroyed (omega arith)),
@@ -37,15 +30,12 @@ destroy-output-requires c κs =
           (← w.reading) at (low_state s a.t task_destroyed p.3),
     )
 
-fire-over-requires : tie.Need-fire-over-requires
-fire-over-requires c κs =
-    let g = c.before.before.before in
-    let f = g.before.before.before.before in
-    let x = f.before.before.before in
-    let p = x.requires in
-    let a = x.args in
+pub fire_over-requires : goal.fire_over-requires
+fire_over-requires c =
+    let p = c.requires in
+    let a = c.args in
     let s = read a.s.now in
-    let w = wrote_next (λ r. output_destroyed r a.t) f.set.ensures g.destroy-output.ensures in
+    let w = wrote_next (λ r. output_destroyed r a.t) c.set.ensures c.destroy_output.ensures in
     let r = put s TaskState a.t task_destroyed in
     let q = output_destroyed r a.t in
     let tidy = tidy_output_destroyed r a.t (tidy_state s p.2 a.t task_destroyed (omega arith)) in
@@ -60,27 +50,16 @@ fire-over-requires c κs =
           (childless_idle q tidy.frame.falls a.t (childless_own s q a.t own p.6)),
     )
 
-same_length : tie.Need-same-length
-same_length c = search rules
-
-returns : tie.Need-returns
+pub returns : goal.returns
 returns c =
-    let h = c.before.before in
-    let g = h.before.before.before.before in
-    let f = g.before.before.before.before in
-    let a = f.before.before.before.args in
+    let a = c.args in
     let s = read a.s.now in
     let q = output_destroyed (put s TaskState a.t task_destroyed) a.t in
-    let w = wrote_next (λ r. output_destroyed r a.t) f.set.ensures g.destroy-output.ensures in
-    let made = h.fire-over.ensures in
+    let w = wrote_next (λ r. output_destroyed r a.t) c.set.ensures c.destroy_output.ensures in
+    let made = c.fire_over.ensures in
     record {
       wrote = rw (← destroy_task-parts s a.t) (wrote_next fire_finished w made.wrote);
       answer =
           made.answer ∙ ap (λ (r : Session). climbed r a.t) w.reading ∙ sym (climbed-fired q a.t)
           ∙ ap (λ (r : Session). climbed r a.t) (destroy_task-parts s a.t);
     }
-
-pub destroy-task-spec : {M : Type 1} → statement M
-destroy-task-spec =
-    tie.close
-    (tie.spec set-requires destroy-output-requires fire-over-requires same_length returns)

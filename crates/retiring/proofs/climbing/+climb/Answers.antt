@@ -1,0 +1,91 @@
+-- `retiring::climbing::climb` meets its contract: each call goes to a lower handle (`done_lower`). A busy task stops the walk
+-- (`climbed-busy`, `busy_steps`); main has no creator (`main_steps`), a live creator is the last (`one-step`), and else the steps are
+-- one and those from the creator (`more_steps`).
+use mathlib.Core.Path.{◌≡◌, sym, ap, ◌∙◌}
+use native.Mathlib.Omega.{arith}
+use Rattle.session.specs.Table.{read}
+use Rattle.session.specs.declared.Field.TheVariants.{TaskCreator}
+use Rattle.rules.specs.Descendants.{climbed}
+use Rattle.ancestors.specs.Above.{Shows}
+use Rattle.retiring.specs.Finish.{mark_yes, mark_no}
+use Rattle.retiring.specs.Climb.{climbed-busy, creator_none, done_lower}
+use Rattle.retiring.specs.Steps.{creator-over, live_stops, busy_steps, main_steps, one-step, more_steps}
+use Rattle.retiring.proofs.climbing.+climb.Goals as goal
+
+pub returns-then-live-h-ne0 : goal.returns-then-live-h-ne0
+unfolding Shows
+returns-then-live-h-ne0 t c =
+    let p = c.requires in
+    let s = read c.args.s.now in
+    let h = c.args.h in
+    let b = mark_yes _ _ (p.5 h (omega (arith, p.7.known, p.1.frame.few))) c.if-live-h-ne0.true in
+    let z = busy_steps s p.1 h p.7.known p.3 b in
+    record { fires = climbed-busy s p.1 h p.7.known _ _ p.2 p.7 b; steps = omega arith }
+
+pub mark_task-found-requires : goal.mark_task-found-requires
+unfolding Shows
+mark_task-found-requires t c =
+    let p = c.requires in
+    let h = c.args.h in
+    let idle = mark_no _ _ (p.5 h (omega (arith, p.7.known, p.1.frame.few))) c.if-live-h-ne0.false in
+    (p.0, p.1, p.2, idle, p.6, p.7)
+
+pub returns-then-get-eq0 : goal.returns-then-get-eq0
+returns-then-get-eq0 t c =
+    let p = c.requires in
+    let s = read c.args.s.now in
+    let h = c.args.h in
+    let none : s TaskCreator h ≡ 0 = sym c.get.ensures ∙ c.if-get-eq0.true in
+    let z = main_steps s p.1 h p.7.known p.3 none in
+    record { fires = rw (creator_none s h none) at c.mark_task-found.ensures; steps = omega arith }
+
+pub returns-then-c-eq0 : goal.returns-then-c-eq0
+unfolding Shows
+returns-then-c-eq0 t c =
+    let p = c.requires in
+    let s = read c.args.s.now in
+    let h = c.args.h in
+    let idle = mark_no _ _ (p.5 h (omega (arith, p.7.known, p.1.frame.few))) c.if-live-h-ne0.false in
+    let none = sym c.done_creator-c.ensures ∙ c.if-c-eq0.true in
+    let some = c.if-get-eq0.false in
+    let e = c.get.ensures in
+    let z = one-step s p.1 h p.7.known p.3 idle (live_stops s p.1 h p.7.known none) (omega arith) in
+    record { fires = rw none at c.mark_task-found.ensures; steps = omega arith }
+
+pub climb-requires : goal.climb-requires
+climb-requires t c =
+    let p = c.requires in
+    let s = read c.args.s.now in
+    let h = c.args.h in
+    let e = c.done_creator-c.ensures in
+    let d = creator-over s p.1 h p.7.known (λ z. c.if-c-eq0.false (e ∙ z)) in
+    let low = done_lower s p.1 h p.7.known p.2 in
+    let some = c.if-c-eq0.false in (
+      omega (arith, low, e, c.decreases),
+      (
+        p.0,
+        p.1,
+        omega (arith, some),
+        rw (e ∙ d.0) d.1,
+        p.4,
+        p.5,
+        c.mark_task-found.auto.fires ∙ p.6,
+        rw e c.mark_task-found.ensures,
+        omega (arith, low, e, p.8),
+      ),
+    )
+
+pub returns : goal.returns
+unfolding Shows
+returns t c =
+    let p = c.requires in
+    let s = read c.args.s.now in
+    let h = c.args.h in
+    let idle = mark_no _ _ (p.5 h (omega (arith, p.7.known, p.1.frame.few))) c.if-live-h-ne0.false in
+    let e = c.done_creator-c.ensures in
+    let d = creator-over s p.1 h p.7.known (λ z. c.if-c-eq0.false (e ∙ z)) in
+    let some = c.if-get-eq0.false in
+    let made = c.get.ensures in
+    let up = more_steps s p.1 h p.7.known p.3 idle (omega arith) in
+    let same = ap (climbed s) (e ∙ d.0) in
+    record { fires = c.climb.ensures.fires; steps = omega (arith, c.climb.ensures.steps, up, same) }

@@ -1,0 +1,45 @@
+-- `retiring::finishing::ready_all_marked` meets its contract: the links before l are swept, one more each turn (`row_next`),
+-- which leaves their sources; past the count of links none is open (`ready-end`).
+use mathlib.Core.Path.{◌≡◌, refl, ap, ◌∙◌}
+use native.Mathlib.Omega.{arith}
+use Rattle.session.specs.Table.{read}
+use Rattle.session.specs.TableLaws.{sweep_zero, sweep_beside, wrote_none, wrote_then}
+use Rattle.session.specs.declared.Field.TheVariants.{LinkSource, LinkState}
+use Rattle.holding.specs.SweepRows.{row_next}
+use Rattle.retiring.specs.Finish.{ready-end}
+use Rattle.retiring.proofs.finishing.ready_all_marked.Goals as goal
+
+pub loop-l-init : goal.loop-l-init
+loop-l-init c =
+    let p = c.requires in
+    let e = c.get-n.ensures in
+    (omega arith, e, omega (arith, e, p.1.frame.few_links), p.0, p.2, p.1, rw sweep_zero (wrote_none _))
+
+pub ready_marked-requires : goal.ready_marked-requires
+ready_marked-requires c =
+    let l = c.loop-l in
+    let i = l.invariant in
+    let e : read l.s LinkSource l.l ≡ read _ LinkSource l.l = ap (λ r. r LinkSource l.l) i.6.reading
+    ∙ sweep_beside _ LinkState l.l _ LinkSource l.l refl in (
+      omega (arith, i.6.same_length, i.3),
+      omega (arith, i.2, c.loop-l-test.true),
+      i.4,
+      omega
+          (arith, e, i.5.frame.sources l.l (omega (arith, i.1, c.loop-l-test.true))),
+    )
+
+pub loop-l-preserved : goal.loop-l-preserved
+loop-l-preserved c =
+    let f = c.ready_marked in
+    let i = c.loop-l.invariant in
+    (omega arith, i.1, i.2, i.3, i.4, i.5, rw (← row_next _ _ _ _ _ i.6.reading) (wrote_then i.6 f.ensures))
+
+pub shape_of-s : goal.shape_of-s
+shape_of-s c = c.loop-l.invariant.6.same_length
+
+pub returns : goal.returns
+returns c =
+    let l = c.loop-l in
+    let i = l.invariant in
+    rw (← ready-end (read c.args.s.now) _ l.l i.5.no_more
+    (omega (arith, i.1))) i.6
