@@ -1,0 +1,33 @@
+-- `engine::operations::counted` meets its contract: the first check that fails, or what the effect makes.
+use mathlib.Core.Path.{sym, ◌∙◌}
+use borrow.Author.Rules.{rules}
+use Rattle.session.specs.Table.{read}
+use Rattle.rules.specs.Checks.{counted_checks}
+use Rattle.rules.specs.Step.{counted_rule}
+use Rattle.laws.specs.Met.{all_met_lem}
+use Rattle.engine.specs.Played.{played_refused, played_accepted}
+use Rattle.engine.proofs.operations.counted.Goals as goal
+
+pub returns-then-refused-ne0 : goal.returns-then-refused-ne0
+returns-then-refused-ne0 c =
+    let a = c.args in
+    played_refused counted_rule _ a.s.now _ c.counted_refusal-refused.ensures
+    c.if-refused-ne0.true
+
+pub counted-requires : goal.counted-requires
+counted-requires c =
+    let a = c.args in
+    let e = sym c.counted_refusal-refused.ensures ∙ c.if-refused-ne0.false in (
+      c.requires.0,
+      c.requires.1,
+      all_met_lem
+          (counted_checks (read a.s.now) a.caller a.n) tt e,
+    )
+
+pub returns : goal.returns
+returns c =
+    let a = c.args in
+    let e = sym c.counted_refusal-refused.ensures
+    ∙ c.if-refused-ne0.false in
+    played_accepted counted_rule _ a.s.now _ _ e
+    c.counted.ensures.answer c.counted.ensures.wrote
