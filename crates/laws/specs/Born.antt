@@ -1,7 +1,7 @@
 -- An object is made: the words of the next handle are written, those of its kind alone. A rule that speaks of each object by
 -- that object's own words stays true of the others. Of the new object, a rule about another kind is true, since it has none of
 -- that kind's fields.
-use Rattle.std.specs.Prelude.{ℕ, ◌+◌, ◌≤◌, ◌<◌, ◌≡◌, refl, Bool, true, false, [], ◌∷◌, ◌++◌, T}
+use Rattle.std.specs.Prelude.{ℕ, ◌≤◌, ◌<◌, ◌≡◌, refl, Bool, true, false, [], ◌∷◌, ◌++◌, T}
 use Rattle.std.proofs.Common.{ap, sym, subst, ◌∙◌, arith}
 use Rattle.session.specs.Names.{most_objects}
 use Rattle.session.specs.Table.{Session, pick}

@@ -12,7 +12,7 @@ use Rattle.rules.specs.FormulaLaws.{choose_yes, choose_no}
 use Rattle.rules.specs.Reading.{is_undelivered}
 use Rattle.rules.specs.Sound.{kept}
 use Rattle.rules.specs.Step.{step}
-use Rattle.rules.specs.Demand.{accepted, next, accepted_of, AllMove, AllMove.none, AllMove.one}
+use Rattle.rules.specs.Demand.{accepted, next, accepted_of, AllMove, AllMove.one}
 use Rattle.rules.specs.Book.{Book, live, live_tasks, undelivered as unstruck, undelivered_links as unstruck_links}
 use Rattle.rules.specs.LastLine.{undelivered_links}
 use Rattle.laws.specs.Rows.Name.{free_links}

@@ -7,7 +7,7 @@ use Rattle.session.specs.declared.Field.TheVariants.{Dropped, Kind, TaskState, T
 use Rattle.session.specs.declared.Field.TheVariants.{LinkSlot, LinkState}
 use Rattle.session.specs.Names.{task, waiting, resolved, granted, running, ended, delivered}
 use Rattle.rules.specs.Formula.{Formula, Holds, choose, Formula.◌≐◌, Formula.◌and◌}
-use Rattle.rules.specs.Reading.{at, is_gone, is_undelivered}
+use Rattle.rules.specs.Reading.{is_gone, is_undelivered}
 use Rattle.rules.specs.Checks.{deliver_checks, grant_checks, start_checks, end_checks}
 use Rattle.rules.specs.Effects.{fire, fire_one, fire_finished, satisfy_slot, satisfy_event, drops, bring, expire, deliver, grant, start, end, let_go}
 use Rattle.rules.specs.Effects.{bury_doomed}

@@ -27,11 +27,11 @@ use Rattle.laws.specs.ByName.{by_name, kept_of}
 use Rattle.laws.specs.Writes.{expire-writes}
 use Rattle.laws.specs.Expire.{StateAfter, state-after, source_fired, gone_fired, still-checked, expire_keeps}
 use Rattle.laws.specs.Expire.StateAfter.{goes, stays}
-use Rattle.laws.specs.Conjuncts.{event_by_name, Event.state_low, Event.state_high, task_by_name}
+use Rattle.laws.specs.Conjuncts.{event_by_name, Event.state_high, task_by_name}
 use Rattle.laws.specs.Conjuncts.{Task.state_high as task-high}
-use Rattle.laws.specs.Conjuncts.{link_row, open_with, cut_with, state_by_name, State.later_full}
-use Rattle.laws.specs.Conjuncts.Linked.{source_made, source_event, target_made as leads-made, target_kind as leads-kind}
-use Rattle.laws.specs.Conjuncts.Linked.{has_slot_lem as leads-slot, agreeing}
+use Rattle.laws.specs.Conjuncts.{link_row, state_by_name, State.later_full}
+use Rattle.laws.specs.Conjuncts.Linked.{target_made as leads-made, target_kind as leads-kind}
+use Rattle.laws.specs.Conjuncts.Linked.{has_slot_lem as leads-slot}
 use Rattle.laws.specs.SlotPlaces.{task-slot, low_slot, part-slots}
 use Rattle.laws.specs.Standing.{made_low, open_unless, open_latch, waits, slot_of, awaited_mark, link_at_lem}
 use Rattle.laws.specs.Holding.{task-gone}

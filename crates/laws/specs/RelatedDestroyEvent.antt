@@ -5,12 +5,11 @@ use Rattle.std.specs.Prelude.{ℕ, ◌≤◌, ◌≡◌, refl, [], ◌∷◌}
 use Rattle.std.proofs.Common.{ap, sym, subst, ◌∙◌, inl}
 use native.Mathlib.Omega.{arith}
 use Rattle.session.specs.Table.{Session, put, change}
-use Rattle.session.specs.declared.Field.TheVariants.{Objects, Links, Kind, EventState, EventType, LinkSource, LinkState}
+use Rattle.session.specs.declared.Field.TheVariants.{Objects, Links, Kind, EventState, LinkSource, LinkState}
 use Rattle.session.specs.Names.{event, event_open, destroyed_unfired, link_open, delivered}
 use Rattle.rules.specs.Formula.{Formula, Holds, not, test, Formula.◌≐◌, Formula.◌≼◌, Formula.◌and◌}
 use Rattle.rules.specs.EventTypes.{stays_when_fired}
 use Rattle.rules.specs.FormulaLaws.{Case, decide, choose_yes, choose_no, Case.it_does, Case.it_does_not}
-use Rattle.rules.specs.Reading.{made}
 use Rattle.rules.specs.Effects.{destroy_event}
 use Rattle.rules.specs.Sound.{links}
 use Rattle.rules.specs.Book.{Book, enter, strike, column, Column}

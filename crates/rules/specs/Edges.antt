@@ -1,6 +1,6 @@
 -- "Edges, marked P" (document 01), and its false roads: those cases that are short lists of calls from a fresh session, and one
 -- theorem that all of them hold of the rules. The crate `edges` has the whole table, P5 to P7 with it, of single calls (`step`).
-use Rattle.std.specs.Prelude.{ℕ, ◌+◌, refl, List, [], ◌∷◌, ◌++◌}
+use Rattle.std.specs.Prelude.{ℕ, refl, List, [], ◌∷◌, ◌++◌}
 use Rattle.session.specs.Table.{Session, put, change, at}
 use Rattle.session.specs.Fresh.{fresh_session}
 use Rattle.session.specs.declared.Field.TheVariants.{Dropped, EventState, SlotMode, SlotMark, LinkState}

@@ -4,10 +4,8 @@ use Prim.Native.Nat.{◌≤◌}
 use mathlib.Core.Path.{sym, ◌∙◌}
 use native.Mathlib.Omega.{arith}
 use lib.ListN.{length}
-use borrow.Author.Tests.{not-true, not-false}
 use Rattle.session.specs.Table.{words}
 use Rattle.engine.specs.Played.{answered_short, answered-unsound, answered-sound, memory-sound, memory-unsound}
-use borrow.Author.Rules.{rules}
 use Rattle.engine.proofs.apply.Goals as goal
 
 pub returns-then-memory-lt-WORDS : goal.returns-then-memory-lt-WORDS
@@ -18,13 +16,13 @@ returns-then-not-is_sound c =
     let a = c.args in
     let long : words ≤ length a.memory.now = omega arith in
     answered-unsound a.memory.now a.op long
-    (memory-unsound a.memory.now long (sym c.is_sound.ensures ∙ not-true _ c.if-not-is_sound.true))
+    (memory-unsound a.memory.now long (sym c.is_sound.ensures ∙ c.if-not-is_sound.true))
 
 pub apply_sound-requires : goal.apply_sound-requires
 apply_sound-requires c =
     let ws = c.args.memory.now in
     let long : words ≤ length ws = omega arith in
-    (long, memory-sound ws long (sym c.is_sound.ensures ∙ not-false _ c.if-not-is_sound.false))
+    (long, memory-sound ws long (sym c.is_sound.ensures ∙ c.if-not-is_sound.false))
 
 pub returns : goal.returns
 returns c =

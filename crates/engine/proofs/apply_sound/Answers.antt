@@ -1,7 +1,6 @@
 -- `engine::apply_sound` meets its contract: by the code one of three callees plays the operation, and what each plays is one step
 -- of a sound session (`replied`).
 use Rattle.engine.specs.Played.{replied}
-use borrow.Author.Rules.{rules}
 use Rattle.engine.proofs.apply_sound.Goals as goal
 
 pub returns-then-code-lt5 : goal.returns-then-code-lt5

@@ -1,14 +1,9 @@
 -- `operations::call` meets its contract: each arm is the operation of its code, and what is left is code 8.
-use Prim.Native.Nat.{ℕ, ◌≤◌, ◌<◌}
 use mathlib.Core.Path.{◌≡◌}
 use native.Mathlib.Omega.{arith}
 use Rattle.rules.specs.Step.{rules}
 use Rattle.engine.specs.Played.{reply_by}
 use Rattle.engine.proofs.operations.call.Goals as goal
-
--- what the match leaves
-last_call : (n : ℕ) → 5 ≤ n → n < 9 → (n ≡ 5 → ⊥) → (n ≡ 6 → ⊥) → (n ≡ 7 → ⊥) → n ≡ 8
-last_call n l h a b c = omega arith
 
 pub returns-in-5 : goal.returns-in-5
 unfolding rules reply_by
@@ -28,6 +23,6 @@ returns-in-7 c =
 pub returns-in_default : goal.returns-in_default
 unfolding rules reply_by
 returns-in_default c =
-    let r = c.in_default.in_default-own.rest in
-    let e : c.args.code ≡ 8 = last_call _ c.pre.2 c.pre.3 r.0.0.1 r.0.1 r.1 in
+    let a = c.args in
+    let e : a.code ≡ 8 = omega arith in
     rw e c.destroy.ensures

@@ -1,6 +1,5 @@
 -- `engine::operations::event` meets its contract: the first check that fails, or what the effect makes.
 use mathlib.Core.Path.{sym, ◌∙◌}
-use borrow.Author.Rules.{rules}
 use Rattle.session.specs.Table.{read}
 use Rattle.rules.specs.Checks.{event_checks}
 use Rattle.rules.specs.Step.{event_rule}

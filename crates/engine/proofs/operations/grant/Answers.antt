@@ -1,6 +1,5 @@
 -- `engine::operations::grant` meets its contract: the first check that fails, or what the effect makes.
 use mathlib.Core.Path.{refl, sym, ◌∙◌}
-use borrow.Author.Rules.{rules}
 use Rattle.session.specs.Table.{read}
 use Rattle.rules.specs.Checks.{grant_checks}
 use Rattle.rules.specs.Step.{grant_rule}

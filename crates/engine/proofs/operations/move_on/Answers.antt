@@ -1,14 +1,9 @@
 -- `operations::move_on` meets its contract: each arm is the operation of its code, and what is left is past the last code.
-use Prim.Native.Nat.{ℕ, ◌≤◌, ◌<◌}
-use mathlib.Core.Path.{◌≡◌}
+use Prim.Native.Nat.{◌<◌}
 use native.Mathlib.Omega.{arith}
 use Rattle.rules.specs.Step.{rules, last_code}
 use Rattle.engine.specs.Played.{reply_by, played_unknown}
 use Rattle.engine.proofs.operations.move_on.Goals as goal
-
--- what the match leaves
-no_move : (n : ℕ) → 9 ≤ n → (n ≡ 9 → ⊥) → (n ≡ 10 → ⊥) → (n ≡ 11 → ⊥) → (n ≡ 12 → ⊥) → (n ≡ 13 → ⊥) → last_code < n
-no_move n l a b c d e = omega arith
 
 pub returns-in-9 : goal.returns-in-9
 unfolding rules reply_by
@@ -38,6 +33,5 @@ returns-in-13 c =
 pub returns-in_default : goal.returns-in_default
 returns-in_default c =
     let a = c.args in
-    let r = c.in_default.in_default-own.rest in
-    played_unknown a.s.now a.code a.t3
-    (no_move a.code c.pre.2 r.0.0.0.0.1 r.0.0.0.1 r.0.0.1 r.0.1 r.1)
+    let past : last_code < a.code = omega arith in
+    played_unknown a.s.now a.code a.f past

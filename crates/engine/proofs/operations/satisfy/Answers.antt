@@ -1,6 +1,5 @@
 -- `engine::operations::satisfy` meets its contract: the first check that fails, or what the effect makes.
 use mathlib.Core.Path.{refl, sym, ◌∙◌}
-use borrow.Author.Rules.{rules}
 use Rattle.session.specs.Table.{read}
 use Rattle.rules.specs.Checks.{satisfy_checks}
 use Rattle.rules.specs.Step.{satisfy_rule}

@@ -1,6 +1,5 @@
 -- `engine::operations::task` meets its contract: the first check that fails, or what the effect makes.
 use mathlib.Core.Path.{sym, ◌∙◌}
-use borrow.Author.Rules.{rules}
 use Rattle.session.specs.Table.{read}
 use Rattle.rules.specs.Checks.{task_checks}
 use Rattle.rules.specs.Step.{task_rule}
