@@ -22,7 +22,7 @@ def code_fields():
     assert bases and list(bases) == list(classes), 'the code and Table.antt name other fields'
     numbers = code_numbers()
     handles, links = int(numbers['MOST_OBJECTS']) + 1, int(numbers['MOST_LINKS']) + 1
-    places = {'always 1': 1, 'perHandle': handles, 'perSlot': 16 * handles, 'perLink': links}
+    places = {'always 1': 1, 'per_handle': handles, 'per_slot': 16 * handles, 'per_link': links}
     sizes = {name: places[a_class] for name, a_class in classes.items()}
     words = 0
     for name in bases:

@@ -31,22 +31,20 @@ MADE = re.compile(r'(Answers|SoundAlong|DemandAlong)\d+\.antt')
 # links from it, after it fired too, and one to itself; its last delivery, of count 1 and more; deliveries that are
 # dropped and count, the last one too; one destroyed open and one fired, which still delivers.
 KINDS = [
-    ('Answers', 'the answers', 'answered freshSession', 60, 7,
+    ('Answers', 'the answers', 'answered fresh_session', 60, 7,
      {1: [292, 923, 354, 1459, 636, 62, 2, 31, 80, 164, 267, 315, 440, 1, 3, 4, 5, 6, 7, 366, 493],
       2: [10111, 4232, 14331, 8872, 1851, 8933, 4124]}),
-    ('SoundAlong', 'the answers, and a sound session after each call', 'soundAlong freshSession', 25, 5,
+    ('SoundAlong', 'the answers, and a sound session after each call', 'sound_along fresh_session', 25, 5,
      {1: [925, 1156, 2361, 2784, 3168, 3296, 3991, 4356, 4415, 6252], 2: [20036, 5003, 11783, 44253, 11612]}),
-    ('DemandAlong', 'the answers, and the claims of demand 3', 'demandAlong freshSession opening', 60, 5,
+    ('DemandAlong', 'the answers, and the claims of demand 3', 'demand_along fresh_session opening', 60, 5,
      {1: [775, 1194, 1405, 1701, 1909, 3804, 4320, 6031, 6552, 6677], 2: [7671, 16724, 3579, 19080, 12488]}),
 ]
 
 HEAD = """-- Made by `python3 tests/make_cases.py` from lists and answers of the second engine: edit that and not this file.
 -- Each list of calls is that of its seed%s: %s.
-use mathlib.Core.Path.{_≡_, refl}
-use mathlib.Core.Bool.{true}
-use mathlib.Core.List.{[], _∷_}
-use Rattle·rules.specs.Step.{freshSession}
-%suse Rattle·cases·specs.specs.Along.{line, %s}
+use Rattle.std.specs.Prelude.{◌≡◌, refl, true, [], ◌∷◌}
+use Rattle.rules.specs.Step.{fresh_session}
+%suse Rattle.cases.specs.Along.{line, %s}
 """
 
 
@@ -126,7 +124,7 @@ def case(formula, seed, lines):
 def files():
     """Every file's name and text."""
     for name, shows, formula, calls, to_a_file, seeds in KINDS:
-        book = 'use Rattle·rules.specs.Book.{opening}\n' if 'opening' in formula else ''
+        book = 'use Rattle.rules.specs.Book.{opening}\n' if 'opening' in formula else ''
         parts = [(edition, some[k:k + to_a_file]) for edition, some in seeds.items() for k in range(0, len(some), to_a_file)]
         for place, (edition, part) in enumerate(parts, 1):
             text = HEAD % (', of edition 2' if edition == 2 else '', shows, book, formula.split()[0])

@@ -2,7 +2,7 @@
 """mutants.py [NAME..]: wrong rules, each with a computed counterexample to demand 3.
 
 A mutant is an edit of one rule, with a short list of calls. Under the mutant a claim about that list computes to false: a
-clause of demand 3 (crates/rules/specs/Demand.antt), or that the session after the list is sound (`soundUsed`), where the rule of
+clause of demand 3 (crates/rules/specs/Demand.antt), or that the session after the list is sound (`sound_used`), where the rule of
 soundness that fails is named too. Under the rules it computes to true. Both are shown by `refl`, in a copy of the definitions
 with the edit and in one without. From the computed fact, tests/mutants/Counterexample.antt.txt proves under the mutant that
 demand 3 does not hold of every list, `((os : List Operation) → Demand3 os) → ⊥`: what is shown false is the theorem, and not
@@ -10,7 +10,7 @@ only its proof. Harmless edits, which say the same in other words, are tried in 
 must compute to true.
 
 The copies have the files that Demand.antt needs and the types of the code, so that no edit is refused for something else.
-Prints a line an edit, and last `N passed, M failed`. It takes a minute on two cores.
+Prints a line an edit, and last `N passed, M failed`. It takes some minutes on two cores.
 """
 import concurrent.futures
 import os
@@ -43,21 +43,21 @@ TO_ITSELF = RUNS + [(13, 2, 1), (5, 2, 3, 3, 0, 1)]
 # call and the task; bounded: the further moves.
 MUTANTS = [
     # a start that leaves granted: here it is taken twice, and below without end
-    ('start-is-repeated', ('starts-once', 2), RUNS + [(11, 2)],
+    ('start-is-repeated', ('starts_once', 2), RUNS + [(11, 2)],
      'Effects', 'start s t = put s TaskState t running', 'start s t = put s TaskState t (s TaskState t)'),
-    ('start-while-waiting', ('starts-ready', 4), ONE_SLOT,
+    ('start-while-waiting', ('starts_ready', 4), ONE_SLOT,
      'Checks', '(s TaskState t ≐ granted) ∷ []', '(s TaskState t ≼ granted) ∷ []'),
-    ('second-claim-replaces', ('starts-ready', 4), ONE_SLOT + [(5, 2, 0, 4, 0, 1), (5, 2, 0, 4, 0, 1), (10, 4)],
-     'Checks', '(isKind s task d then s SlotMode (at d j) ≐ 0)', '(isKind s task d then s SlotMode (at d j) ≼ 4)'),
-    ('book-does-not-count-deliveries', ('starts-ready', 5), LINKED + [(6, 2, 3, 0, 0), (9, 1), (10, 5)],
+    ('second-claim-replaces', ('starts_ready', 4), ONE_SLOT + [(5, 2, 0, 4, 0, 1), (5, 2, 0, 4, 0, 1), (10, 4)],
+     'Checks', '(is_kind s task d then s SlotMode (at d j) ≐ 0)', '(is_kind s task d then s SlotMode (at d j) ≼ 4)'),
+    ('book-does-not-count-deliveries', ('starts_ready', 5), LINKED + [(6, 2, 3, 0, 0), (9, 1), (10, 5)],
      'Book',
-     'enterDeliver b l = satisfies (enter b Struck l 1) (b LinkTarget l) (b LinkSlot l) (b Has (b LinkSource l))',
-     'enterDeliver b l = enter b Struck l 1'),
-    ('finish-waits-for-children-alone', ('finish-fires', (12, 4, 0), 4),
+     'enter_deliver b l = satisfies (enter b Struck l 1) (b LinkTarget l) (b LinkSlot l) (b Has (b LinkSource l))',
+     'enter_deliver b l = enter b Struck l 1'),
+    ('finish-waits-for-children-alone', ('finish_fires', (12, 4, 0), 4),
      FINISH + [(2, 4, 3, 17, 0, 0), (10, 6), (11, 6), (2, 6, 3, 17, 0, 0), (12, 6, 0)],
      'Effects', 'and not (busy s (e - 1))',
      'and each (s Objects 0 + 1) '
-     '(λ h. not (isKind s task h and s TaskState h ≼ running and s TaskCreator h ≐ e - 1))'),
+     '(λ h. not (is_kind s task h and s TaskState h ≼ running and s TaskCreator h ≐ e - 1))'),
     ('link-stays-ready', ('bounded', [(9, 1)] * 4), STICKY + [(6, 2, 3, 0, 0), (5, 2, 3, 4, 0, 1), (9, 1)],
      'Effects', 'put s LinkState l delivered', 'put s LinkState l ready'),
     ('start-leaves-granted', ('bounded', [(11, 2)] * 4), [(10, 2)],
@@ -76,80 +76,80 @@ MUTANTS = [
     ('release-empties-the-slot', ('sound', 'roots', 2), RUNS + [(7, 2, 1)],
      'Effects', 'which (s SlotPayload i)) satisfied (s SlotMark i)', 'which (s SlotPayload i)) 0 (s SlotMark i)'),
     ('running-task-destroyed', ('sound', 'creators', 2), NO_SLOT + [(10, 4), (11, 4), (2, 4, 3, 17, 0, 0), (8, 2, 4)],
-     'Checks', '(isKind s task h then s TaskState h ≼ resolved)', '(isKind s task h then s TaskState h ≼ running)'),
+     'Checks', '(is_kind s task h then s TaskState h ≼ resolved)', '(is_kind s task h then s TaskState h ≼ running)'),
     ('finish-never-fires', ('sound', 'outputs', 2), FINISH + [(12, 4, 0)],
-     'Effects', 'fireFinished (choose (s TaskOutput t ≐ 1 and s TaskFinish t ≐ 0) (fireOne r (t + 1) b) r)',
-     'choose (s TaskOutput t ≐ 1 and s TaskFinish t ≐ 0) (fireOne r (t + 1) b) r'),
+     'Effects', 'fire_finished (choose (s TaskOutput t ≐ 1 and s TaskFinish t ≐ 0) (fire_one r (t + 1) b) r)',
+     'choose (s TaskOutput t ≐ 1 and s TaskFinish t ≐ 0) (fire_one r (t + 1) b) r'),
     ('delivery-leaves-the-slot-unsatisfied', ('sound', 'slots', 2), LINKED + [(6, 2, 3, 0, 0), (9, 1)],
      'Effects', '(satisfy r d j (s EventPayload (s LinkSource l)))',
-     '(choose (isKind s task d) r (satisfy r d j (s EventPayload (s LinkSource l))))'),
+     '(choose (is_kind s task d) r (satisfy r d j (s EventPayload (s LinkSource l))))'),
     ('fired-links-stay-open', ('sound', 'links', 2), CHAINED + [(6, 2, 3, 0, 0)],
-     'Effects', 'fires (s LinkSource l)) ready (s LinkState l)', 'fires (s LinkSource l)) linkOpen (s LinkState l)'),
+     'Effects', 'fires (s LinkSource l)) ready (s LinkState l)', 'fires (s LinkSource l)) link_open (s LinkState l)'),
     ('destroyed-event-drops-ready-links', ('sound', 'links', 2),
      STICKY + [(5, 2, 3, 4, 0, 1), (6, 2, 3, 0, 0), (8, 2, 3)],
-     'Effects', '(s LinkState l ≐ linkOpen)) cut', '(s LinkState l ≼ ready)) cut'),
-    ('second-link-to-a-slot', ('sound', 'oneLink', 2), LINKED + [(5, 2, 3, 5, 0, 1)],
-     'Checks', '(isKind s task d then s SlotMode (at d j) ≐ 0)', '(isKind s task d then s SlotMode (at d j) ≼ 4)'),
+     'Effects', '(s LinkState l ≐ link_open)) cut', '(s LinkState l ≼ ready)) cut'),
+    ('second-link-to-a-slot', ('sound', 'one_link', 2), LINKED + [(5, 2, 3, 5, 0, 1)],
+     'Checks', '(is_kind s task d then s SlotMode (at d j) ≐ 0)', '(is_kind s task d then s SlotMode (at d j) ≼ 4)'),
     ('grant-holds-one-slot', ('sound', 'states', 2), TWO_SLOTS + [(5, 2, 1, 4, 0, 2), (5, 2, 1, 4, 1, 2), (10, 4)],
      'Effects', '((i / 16 ≐ t) and (1 ≼ s SlotPayload i)) held', '((i ≐ at t 0) and (1 ≼ s SlotPayload i)) held'),
     ('end-keeps-holds', ('sound', 'states', 2), ONE_SLOT + [(5, 2, 1, 4, 0, 2), (10, 4), (11, 4), (12, 4, 0)],
-     'Effects', 'let r = put (letGo s t (λ k. 0 ≐ 0)) TaskState t ended in', 'let r = put s TaskState t ended in'),
+     'Effects', 'let r = put (let_go s t (λ k. 0 ≐ 0)) TaskState t ended in', 'let r = put s TaskState t ended in'),
     ('doomed-blocks-stay', ('sound', 'blocks', 2),
      ONE_SLOT + [(4, 2, 0), (5, 2, 5, 4, 0, 2), (10, 4), (11, 4), (8, 2, 5), (12, 4, 0)],
-     'Effects', 'doomed and not (isHeld s b)) blockDestroyed', 'doomed and not (isHeld s b)) doomed'),
+     'Effects', 'doomed and not (is_held s b)) block_destroyed', 'doomed and not (is_held s b)) doomed'),
     ('grant-checks-one-slot', ('sound', 'compatible', 2), TWO_SLOTS + [(5, 2, 0, 4, 0, 1), (5, 2, 1, 4, 1, 3), (10, 4)],
-     'Checks', '(each (s TaskSlots t) (λ j. slotFree t (at t j)))', '(each 1 (λ j. slotFree t (at t j)))'),
+     'Checks', '(each (s TaskSlots t) (λ j. slot_free t (at t j)))', '(each 1 (λ j. slot_free t (at t j)))'),
     # what check 18 asks no longer keeps what soundness asks
     ('hold-in-RW-stops-nobody', ('sound', 'compatible', 2), ONE_SLOT + [(5, 2, 1, 4, 0, 3), (10, 4)],
-     'Modes', 'stoppedBy asked held = conflict asked held', 'stoppedBy asked held = conflict asked held and 3 ≼ held'),
+     'Modes', 'stopped_by asked held = conflict asked held', 'stopped_by asked held = conflict asked held and 3 ≼ held'),
     ('latch-fires-at-1', ('sound', 'latches', 2), RUNS + [(3, 2, 4), (6, 2, 3, 0, 1)],
-     'Effects', 'choose (n ≐ evenTally) (fireOne r e 0) r', 'choose (n ≐ evenTally + 1) (fireOne r e 0) r'),
+     'Effects', 'choose (n ≐ even_tally) (fire_one r e 0) r', 'choose (n ≐ even_tally + 1) (fire_one r e 0) r'),
     ('drop-counts-twice', ('sound', 'dropped', 2),
      RUNS + [(3, 2, 3), (3, 2, 3), (6, 2, 3, 0, 0), (6, 2, 4, 0, 0), (5, 2, 3, 4, 0, 1), (9, 1)],
      'Effects', '(s Dropped 0 + 1)', '(s Dropped 0 + 2)'),
     # a counted event that has served its count and is there still
-    ('served-event-stays', ('sound', 'countedEvents', 2), COUNTED + [(6, 2, 3, 0, 0), (9, 1)],
-     'Effects', 'choose (servesLast s l) destroyedFired (s EventState e)', 'choose (servesLast s l) fired (s EventState e)'),
-    ('dropped-delivery-does-not-count', ('sound', 'countedEvents', 2), TO_ITSELF + [(6, 2, 3, 0, 0), (9, 1)],
+    ('served-event-stays', ('sound', 'counted_events', 2), COUNTED + [(6, 2, 3, 0, 0), (9, 1)],
+     'Effects', 'choose (serves_last s l) destroyed_fired (s EventState e)', 'choose (serves_last s l) fired (s EventState e)'),
+    ('dropped-delivery-does-not-count', ('sound', 'counted_events', 2), TO_ITSELF + [(6, 2, 3, 0, 0), (9, 1)],
      'Effects', 'deliver s l = bring (expire s l) l',
      'deliver s l = bring (choose (drops s (s LinkTarget l) (s LinkSlot l)) s (expire s l)) l'),
     ('served-event-goes-unfired', ('sound', 'links', 2), COUNTED + [(6, 2, 3, 0, 0), (9, 1)],
-     'Effects', 'choose (servesLast s l) destroyedFired (s EventState e)', 'choose (servesLast s l) destroyedUnfired (s EventState e)'),
-    ('link-past-the-count', ('sound', 'countedEvents', 2), COUNTED + [(5, 2, 3, 4, 0, 1)],
-     'Checks', 'check 24 (makesLink source then not (hasItsCount s source))', 'check 24 (makesLink source then made s source)'),
-    ('link-more-than-the-count', ('sound', 'countedEvents', 2), COUNTED + [(5, 2, 3, 4, 0, 1)],
-     'Reading', 'hasItsCount e = isCounted e and s EventCount e ≼ linksFrom e',
-     'hasItsCount e = isCounted e and s EventCount e + 1 ≼ linksFrom e'),
+     'Effects', 'choose (serves_last s l) destroyed_fired (s EventState e)', 'choose (serves_last s l) destroyed_unfired (s EventState e)'),
+    ('link-past-the-count', ('sound', 'counted_events', 2), COUNTED + [(5, 2, 3, 4, 0, 1)],
+     'Checks', 'check 24 (makes_link source then not (has_its_count s source))', 'check 24 (makes_link source then made s source)'),
+    ('link-more-than-the-count', ('sound', 'counted_events', 2), COUNTED + [(5, 2, 3, 4, 0, 1)],
+     'Reading', 'has_its_count e = is_counted e and s EventCount e ≼ links_from e',
+     'has_its_count e = is_counted e and s EventCount e + 1 ≼ links_from e'),
     ('count-0-admitted', ('sound', 'objects', 2), RUNS + [(13, 2, 0)],
-     'Checks', 'check 7 (isLinkCount n)', 'check 7 (n ≐ 0 or isLinkCount n)'),
+     'Checks', 'check 7 (is_link_count n)', 'check 7 (n ≐ 0 or is_link_count n)'),
 ]
 
 # name of the mutant whose claim is tried, old text (in the mutant's file), new text that says the same
 HARMLESS = [
     ('drop-counts-twice', '(s Dropped 0 + 1)', '(1 + s Dropped 0)'),
     ('grant-holds-one-slot', '((i / 16 ≐ t) and (1 ≼ s SlotPayload i)) held', '((1 ≼ s SlotPayload i) and (i / 16 ≐ t)) held'),
-    ('grant-checks-one-slot', '(each (s TaskSlots t) (λ j. slotFree t (at t j)))', '(each 16 (λ j. slotFree t (at t j)))'),
+    ('grant-checks-one-slot', '(each (s TaskSlots t) (λ j. slot_free t (at t j)))', '(each 16 (λ j. slot_free t (at t j)))'),
     ('start-from-resolved', '(s TaskState t ≐ granted) ∷ []', '(granted ≐ s TaskState t) ∷ []'),
-    ('hold-in-RW-stops-nobody', 'stoppedBy asked held = conflict asked held', 'stoppedBy asked held = conflict held asked'),
-    ('served-event-stays', 'choose (servesLast s l) destroyedFired (s EventState e)',
-     'choose (not (servesLast s l)) (s EventState e) destroyedFired'),
-    ('link-past-the-count', 'check 24 (makesLink source then not (hasItsCount s source))',
-     'check 24 (not (makesLink source and hasItsCount s source))'),
-    ('count-0-admitted', 'check 7 (isLinkCount n)', 'check 7 (1 ≼ n and isLinkCount n)'),
+    ('hold-in-RW-stops-nobody', 'stopped_by asked held = conflict asked held', 'stopped_by asked held = conflict held asked'),
+    ('served-event-stays', 'choose (serves_last s l) destroyed_fired (s EventState e)',
+     'choose (not (serves_last s l)) (s EventState e) destroyed_fired'),
+    ('link-past-the-count', 'check 24 (makes_link source then not (has_its_count s source))',
+     'check 24 (not (makes_link source and has_its_count s source))'),
+    ('count-0-admitted', 'check 7 (is_link_count n)', 'check 7 (1 ≼ n and is_link_count n)'),
 ]
 
 # of each claim: the claim itself; what is computed with it; the law of Counterexample.antt.txt that refutes demand 3
 CLAIMS = {
-    'sound': ('soundUsed (S os)', ['Able os {1}', 'test ({0} (S os)) ≡ false'], 'unsound os {1} steadily also0 fact'),
-    'starts-once': ('startsOnce os {0}', [], 'starts-twice os {0} steadily fact'),
-    'starts-ready': ('startsReady os {0}', ['Able os 2'], 'starts-unready os {0} steadily also0 fact'),
-    'finish-fires': ('firesDone os ({0}) {1}', ['Able os 2'], 'fires-early os ({0}) {1} steadily also0 fact'),
-    'bounded': ('bounded os ({0})', ['steady (S os) (B os) ({0}) ≡ true', 'test (allMoves ({0})) ≡ true'],
-                'moves-on os ({0}) steadily also0 also1 fact'),
-    'stuck': ('unstuck os {0}', [], 'stuck-able os {0} steadily fact'),
+    'sound': ('sound_used (S os)', ['Able os {1}', 'test ({0} (S os)) ≡ false'], 'unsound os {1} steadily also0 fact'),
+    'starts_once': ('starts_once os {0}', [], 'starts_twice os {0} steadily fact'),
+    'starts_ready': ('is_start_ready os {0}', ['Able os 2'], 'starts_unready os {0} steadily also0 fact'),
+    'finish_fires': ('fires_done os ({0}) {1}', ['Able os 2'], 'fires_early os ({0}) {1} steadily also0 fact'),
+    'bounded': ('bounded os ({0})', ['steady (S os) (B os) ({0}) ≡ true', 'test (all_moves ({0})) ≡ true'],
+                'moves_on os ({0}) steadily also0 also1 fact'),
+    'stuck': ('unstuck os {0}', [], 'stuck_able os {0} steadily fact'),
 }
 
-NEEDED = re.compile(r'^(?:unfoldable |pub )*use Rattle·rules·specs\.specs\.(\w+)(?:\.| as )', re.M)
+NEEDED = re.compile(r'^(?:unfoldable |pub )*use Rattle\.rules\.(?:specs|proofs)\.(\w+)(?:\.| as )', re.M)
 UNFOLDABLE = re.compile(r'^ *unfoldable pub (?:use \S+\.\{(\w+)\}|(\S+) :)', re.M)
 FUNCTION = re.compile(r'^(?:pub )?fn .*?^}\n', re.M | re.S)
 
@@ -181,8 +181,9 @@ def modules():
 
 
 def copy_of_session(folder):
-    """The crate that the definitions stand on, to be proved in the copy: this runs while `rt ci` empties and fills target/."""
-    shutil.copytree(os.path.join(ROOT, 'crates', 'session'), os.path.join(folder, 'crates', 'session'))
+    """The crate that the definitions stand on, without what checks kept of it: a check in the copy finds that by itself."""
+    session = os.path.join(ROOT, 'crates', 'session')
+    shutil.copytree(session, os.path.join(folder, 'crates', 'session'), ignore=shutil.ignore_patterns('out'))
 
 
 def copy_of_rules(folder):
@@ -197,8 +198,8 @@ def copy_of_rules(folder):
     write(os.path.join(folder, 'crates.txt'), 'session:\nrules: session\nwitness: rules session\n')
     witness = os.path.join(crates, 'witness')
     write(os.path.join(witness, 'src', 'lib.rt'), 'pub const FACTS: u64 = 1;\n')
-    write(os.path.join(witness, 'specs', 'Lib.antt'), 'pub mod Counterexample\npub mod Facts\n')
-    write(os.path.join(witness, 'specs', 'Counterexample.antt'), text_of(COUNTEREXAMPLE))
+    write(os.path.join(witness, 'proofs', 'Lib.antt'), 'pub mod Counterexample\npub mod Facts\n')
+    write(os.path.join(witness, 'proofs', 'Counterexample.antt'), text_of(COUNTEREXAMPLE))
 
 
 def operation(call):
@@ -220,19 +221,19 @@ def head():
     for name in modules():
         names = [a or b for a, b in UNFOLDABLE.findall(text_of(spec(name)))]
         if names and name != 'Demand':
-            uses.append('use Rattle·rules.specs.%s.{%s}' % (name, ', '.join(names)))
+            uses.append('use Rattle.rules.specs.%s.{%s}' % (name, ', '.join(names)))
             unfolded += names
     own = ['leaves', 'entry', 'entries', 'takes', 'steady']
-    claims = ['call', 'S', 'B', 'Steady', 'Able', 'Demanded', 'allMoves']
-    claims += re.findall(r'^pub ([\w-]+) :', text_of(COUNTEREXAMPLE), re.M)
+    claims = ['call', 'S', 'B', 'Steady', 'Able', 'Demanded', 'all_moves']
+    claims += re.findall(r'^pub (\w+) :', text_of(COUNTEREXAMPLE), re.M)
     claims += [claim[0].split()[0] for name, claim in CLAIMS.items() if name != 'sound']
     rules = sorted({mutant[1][1] for mutant in MUTANTS if mutant[1][0] == 'sound'})
     return '\n'.join([
-        'use Prim.Native.Nat.{ℕ}', 'use mathlib.Core.Path.{_≡_, refl}', 'use mathlib.Core.Bool.{true, false}',
-        'use mathlib.Core.List.{List, [], _∷_}', 'use Rattle·session.specs.Table.{put, change}',
-        'use Rattle·rules.specs.declared.Operation.{Operation}'] + uses + [
-        'use Rattle·rules.specs.Sound.{%s}' % ', '.join(rules),
-        'use Rattle·witness·specs.specs.Counterexample.{%s}' % ', '.join(own + claims), '',
+        'use Rattle.std.specs.Prelude.{ℕ, ◌≡◌, refl, true, false, List, [], ◌∷◌}',
+        'use Rattle.session.specs.Table.{put, change}',
+        'use Rattle.rules.specs.declared.Operation.{Operation}'] + uses + [
+        'use Rattle.rules.specs.Sound.{%s}' % ', '.join(rules),
+        'use Rattle.witness.proofs.Counterexample.{%s}' % ', '.join(own + claims), '',
         'unfoldable computed : ℕ', 'unfolding ' + ' '.join(unfolded + own), 'computed = 0', ''])
 
 
@@ -256,9 +257,10 @@ def facts(mutant, verdict, mark=''):
 
 def proved(folder, text):
     """Whether the facts are proved of the rules as they stand in the copy; else what was said."""
-    write(os.path.join(folder, 'crates', 'witness', 'specs', 'Facts.antt'), head() + text)
-    run = subprocess.run(['rt', 'check', 'witness'], cwd=folder, stdout=subprocess.PIPE, stderr=subprocess.STDOUT, text=True)
-    errors = re.findall(r'^\S*specs/(\S+: error: .*)', run.stdout, re.M)
+    witness = os.path.join(folder, 'crates', 'witness')
+    write(os.path.join(witness, 'proofs', 'Facts.antt'), head() + text)
+    run = subprocess.run(['rt', 'check'], cwd=witness, stdout=subprocess.PIPE, stderr=subprocess.STDOUT, text=True)
+    errors = re.findall(r'^\S*(?:specs|proofs)/(\S+: error: .*)', run.stdout, re.M)
     return run.returncode == 0, (errors or run.stdout.splitlines())[0]
 
 
