@@ -58,8 +58,8 @@ fn write_text(sheet: &[u8], out: &mut [u8]) -> usize
 
 // Writes the records from the first one's place on.
 fn write_records(sheet: &[u8], first: usize, out: &mut [u8], start: usize) -> usize
-    requires le_first { 1 ≤ first }
-    requires first_in_bounds { start + length (records_text 1 (records_from sheet.now (length sheet.now) first)) ≤ length out.old }
+    requires past_head { 1 ≤ first }
+    requires room { start + length (records_text 1 (records_from sheet.now (length sheet.now) first)) ≤ length out.old }
     ensures { Put out.old start (records_text 1 (records_from sheet.now (length sheet.now) first))
         result out.new }
 {
@@ -83,8 +83,8 @@ fn write_records(sheet: &[u8], first: usize, out: &mut [u8], start: usize) -> us
 
 // Writes the line of a record: its numbers, and the operation's name in a comment.
 fn write_line(op: Operation, out: &mut [u8], at: usize) -> usize
-    requires Holds { Holds (is_code op.code) }
-    requires op_in_bounds { at + length (line op) ≤ length out.old }
+    requires known { Holds (is_code op.code) }
+    requires room { at + length (line op) ≤ length out.old }
     ensures { Put out.old at (line op) result out.new }
 {
     let code = op.code;
@@ -110,8 +110,8 @@ fn field_count(code: u64) -> usize
 
 // Writes the first n fields, each behind a space.
 fn write_fields(fields: [u64; 5], n: usize, out: &mut [u8], start: usize) -> usize
-    requires n_bound { n ≤ 5 }
-    requires k_in_bounds { start + length (fields_text n (λ k. get_or fields k 0)) ≤ length out.old }
+    requires few { n ≤ 5 }
+    requires room { start + length (fields_text n (λ k. get_or fields k 0)) ≤ length out.old }
     ensures { Put out.old start (fields_text n (λ k. get_or fields k 0)) result out.new }
 {
     let mut at = start;
@@ -145,8 +145,8 @@ fn write_refusal(k: u64, refused: u64, out: &mut [u8], at: usize) -> usize
 
 // Writes the name of an operation of a known code.
 fn write_name(code: u64, out: &mut [u8], at: usize) -> usize
-    requires Holds { Holds (is_code code) }
-    requires code_in_bounds { at + length (name_of code) ≤ length out.old }
+    requires known { Holds (is_code code) }
+    requires room { at + length (name_of code) ≤ length out.old }
     ensures { Put out.old at (name_of code) result out.new }
 {
     let i = code as usize;

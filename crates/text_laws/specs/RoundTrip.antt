@@ -1,5 +1,5 @@
 -- The text of a sheet, of any edition, read as text, gives the sheet's bytes back.
-use Rattle.std.specs.Prelude.{ℕ, zero, suc, ◌+◌, ◌≤◌, ◌<◌, List, [], ◌∷◌, ◌++◌, ◌≡◌, refl, length, get_or}
+use Rattle.std.specs.Prelude.{ℕ, zero, suc, ◌≤◌, ◌<◌, List, [], ◌∷◌, ◌++◌, ◌≡◌, refl, length, get_or}
 use Rattle.std.proofs.Common.{append_assoc, append-nil, ap, sym, subst, ◌∙◌, arith}
 use Rattle.number.specs.Number.{AreBytes, encode}
 use Rattle.rules.specs.declared.Operation.{Operation}

@@ -16,14 +16,13 @@ returns-in-35 c = sym (kind_hash _ c.in-35.is)
 pub returns-in-48-to-57 : goal.returns-in-48-to-57
 returns-in-48-to-57 c = sym (kind_digit _ (omega arith) (omega arith))
 
+-- a byte that no arm before took
 pub returns-in_default : goal.returns-in_default
 returns-in_default c =
-    let plain : Plain c.args.b =
-    let r = c.in_default.in_default-own.rest in let blank = r.0 in record { no_newline = blank.0.1; no_blank = blank.1; no_hash = r.1 } in
-    sym (kind_other _ (plain) (λ h. omega arith))
+    let plain : Plain c.args.b = record { no_newline = omega arith; no_blank = omega arith; no_hash = omega arith } in
+    sym (kind_other _ plain (λ h. omega arith))
 
 pub returns-in_default-2 : goal.returns-in_default-2
 returns-in_default-2 c =
-    let plain : Plain c.args.b =
-    let r = c.in_default.in_default-own.rest in let blank = r.0 in record { no_newline = blank.0.1; no_blank = blank.1; no_hash = r.1 } in
-    sym (kind_other _ (plain) (λ h. omega arith))
+    let plain : Plain c.args.b = record { no_newline = omega arith; no_blank = omega arith; no_hash = omega arith } in
+    sym (kind_other _ plain (λ h. omega arith))
