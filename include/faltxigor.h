@@ -1,4 +1,4 @@
-/* The proved engine as a static library: `rt staticlib library` writes target/staticlib/liblibrary.a.
+/* The proved engine as a static library: `./test library` writes target/staticlib/liblibrary.a.
  *
  * A session is lent as 64-bit words; docs/LAYOUT.md says how many and what stands in each. The words past the layout
  * are never read or written. Nothing is kept between calls, and no call allocates. Any words, bytes and numbers may be

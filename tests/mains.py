@@ -6,7 +6,7 @@ contract (docs/PROMISES.md). Here each program is tried on inputs whose output w
 alone: as it stands and with a harmless edit of its code the outputs must be right; with each wrong edit it must still be
 proved, so that the edit shows what proofs do not see, and an output must be wrong.
 
-The edits are made in a copy of the tree, with what was proved of it. Prints a line a try, and last `N passed, M failed`.
+The edits are made in copies of the tree, which begin with what was proved of it. Prints a line a try, and last `N passed, M failed`.
 """
 import concurrent.futures
 import os
@@ -19,6 +19,8 @@ import tempfile
 from by_hand import shortest
 
 ROOT = os.path.dirname(os.path.dirname(os.path.abspath(__file__)))
+sys.path.insert(0, os.path.join(ROOT, 'tools'))
+import commands  # noqa: E402  (what ./run and ./class share, in tools)
 
 # Link 1 was never made: deliveries of it are refused with 9. Their lines take more than one part of 16,384 bytes, and the last
 # byte is the 32,769th: without it the last record is cut short.
@@ -82,22 +84,22 @@ AT_A_TIME = 3
 
 
 def copy_of_tree(folder):
-    """The crates, with what was proved of them."""
+    """The crates, with the libraries that were built of them."""
     shutil.copy(os.path.join(ROOT, 'crates.txt'), folder)
-    for name in ['crates', os.path.join('target', 'rlib'), os.path.join('target', 'stamp'), os.path.join('target', 'bin')]:
-        if os.path.exists(os.path.join(ROOT, name)):
-            shutil.copytree(os.path.join(ROOT, name), os.path.join(folder, name))
+    names = shutil.ignore_patterns('incremental', 'must-fail', 'twins')
+    shutil.copytree(os.path.join(ROOT, 'crates'), os.path.join(folder, 'crates'), ignore=names)
 
 
 def is_proved(folder, program):
     """Whether a program of the copy is proved and built."""
-    run = subprocess.run(['rt', 'check', program], cwd=folder, stdout=subprocess.PIPE, stderr=subprocess.STDOUT, text=True)
-    return 'rt: %s proved' % program in run.stdout
+    return commands.run(program, folder, subprocess.DEVNULL)
 
 
 def is_right(folder, program):
     """Whether a program of the copy prints what it must, and nothing on standard error."""
-    path = os.path.join(folder, 'target', 'bin', program)
+    path = os.path.join(folder, 'crates', program, 'out', program)
+    if not os.path.exists(path):
+        return False
     runs = [(subprocess.run([path], input=read, stdout=subprocess.PIPE, stderr=subprocess.PIPE), wanted)
             for read, wanted in TRIES[program]]
     return all(run.stdout == wanted and run.stderr == b'' for run, wanted in runs)
@@ -135,7 +137,11 @@ def jobs(programs):
 
 
 def main():
-    todo, passed, failed = list(jobs(sys.argv[1:] or list(TRIES))), 0, 0
+    programs = sys.argv[1:] or list(TRIES)
+    todo, passed, failed = list(jobs(programs)), 0, 0
+    # once here, so that no copy has to prove the libraries
+    for program in programs:
+        subprocess.run(['rt', 'check'], cwd=os.path.join(ROOT, 'crates', program), stdout=subprocess.DEVNULL)
     with concurrent.futures.ThreadPoolExecutor(2) as pool:
         for (program, _), told in zip(todo, pool.map(answers, todo)):
             for holds, words in told:

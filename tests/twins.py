@@ -59,11 +59,9 @@ def keeps_form(edit):
 
 
 def copy_of_tree(into):
-    """A copy of the crates with what was proved of them."""
+    """A copy of the crates. A check there begins with what checks here kept, which rt finds by itself."""
     shutil.copy(os.path.join(ROOT, 'crates.txt'), into)
-    for name in ['crates', os.path.join('target', 'rlib'), os.path.join('target', 'stamp')]:
-        if os.path.exists(os.path.join(ROOT, name)):
-            shutil.copytree(os.path.join(ROOT, name), os.path.join(into, name))
+    shutil.copytree(os.path.join(ROOT, 'crates'), os.path.join(into, 'crates'), ignore=shutil.ignore_patterns('out'))
 
 
 def proved(folder, crate, edit):
@@ -78,11 +76,12 @@ def proved(folder, crate, edit):
         whole.setdefault(path, text)
         with open(path, 'w', encoding='utf-8') as file:
             file.write(text.replace(old, new))
-    run = subprocess.run(['rt', 'check', crate], cwd=folder, stdout=subprocess.PIPE, stderr=subprocess.STDOUT, text=True)
+    place = os.path.join(folder, 'crates', crate)
+    run = subprocess.run(['rt', 'check'], cwd=place, stdout=subprocess.PIPE, stderr=subprocess.STDOUT, text=True)
     for path, text in whole.items():
         with open(path, 'w', encoding='utf-8') as file:
             file.write(text)
-    errors = re.findall(r'^\S*?(crates/\S+: error: .{0,300})', run.stdout, re.M)
+    errors = re.findall(r'^\S*?((?:src|specs|proofs)/\S+: error.{0,300})', run.stdout, re.M)
     return run.returncode == 0, (errors or ['rt ended with %d' % run.returncode])[0]
 
 

@@ -33,24 +33,35 @@ def named(words, usage, kind, otherwise):
 
 
 def program(name):
-    """Where a proved program stands once it is built."""
-    return os.path.join(ROOT, 'target', 'bin', name)
+    """Where a proved program stands once it is built: `rt ci` and `rt run` leave it in its crate."""
+    return os.path.join(ROOT, 'crates', name, 'out', name)
 
 
 def build(names):
-    """Proves and builds the programs if one is missing; where that fails, shows the end of the log and ends."""
-    if all(os.access(program(name), os.X_OK) for name in names):
+    """Proves and builds each program that is missing; where that fails, shows the end of the log and ends."""
+    missing = [name for name in names if not os.access(program(name), os.X_OK)]
+    if not missing:
         return
-    print(f'proving and building {" ".join(names)}: some minutes, the first time', file=sys.stderr)
+    print(f'proving and building {" ".join(missing)}: some minutes, the first time', file=sys.stderr)
     os.makedirs(os.path.dirname(LOG), exist_ok=True)
+    with open(LOG, 'w') as log:
+        if all(run(name, ROOT, log) for name in missing):
+            return
+    with open(LOG, errors='replace') as log:
+        sys.exit(''.join(log.readlines()[-20:]).rstrip())
+
+
+def run(name, root, log):
+    """Whether a program of the tree at `root` is proved and built, by `rt run`, which then runs it; here on no input."""
+    folder = os.path.join(root, 'crates', name)
+    built = os.path.join(folder, 'out', name)
+    if os.path.exists(built):
+        os.remove(built)
     try:
-        with open(LOG, 'w') as log:
-            built = subprocess.run(['rt', 'check', *names], cwd=ROOT, stdout=log, stderr=subprocess.STDOUT)
+        subprocess.run(['rt', 'run'], cwd=folder, stdin=subprocess.DEVNULL, stdout=log, stderr=subprocess.STDOUT)
     except FileNotFoundError:
         sys.exit('rt is not found: the programs are proved and built with the Rattle kit')
-    if built.returncode:
-        with open(LOG, errors='replace') as log:
-            sys.exit(''.join(log.readlines()[-20:]).rstrip())
+    return os.access(built, os.X_OK)
 
 
 def sheet_of(path):

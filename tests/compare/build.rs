@@ -3,7 +3,7 @@
 use std::path::{Path, PathBuf};
 use std::{env, process};
 
-/// Another library than the one that `rt staticlib library` writes.
+/// Another library than the one that tools/archive.py puts in target/staticlib.
 const VARIABLE: &str = "FALTXIGOR_LIBRARY";
 
 /// The engine without check 2, an archive of its own in the same folder.
@@ -31,7 +31,7 @@ fn link(archive: &Path) {
 
 fn missing(archive: &Path) -> ! {
     eprintln!("no static library at {}", archive.display());
-    eprintln!("build it with `rt staticlib library` and `rt staticlib unchecked` at the root,");
+    eprintln!("build it with `./test library unchecked` at the root,");
     eprintln!("or set {VARIABLE} to the path of a lib*.a that has {UNCHECKED} beside it");
     process::exit(1)
 }

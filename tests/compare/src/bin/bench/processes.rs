@@ -9,7 +9,7 @@ use std::{env, fs, process};
 /// A proved program and the second engine's.
 pub fn programs(proved: &str, second: &str) -> [PathBuf; 2] {
     let root = Path::new(env!("CARGO_MANIFEST_DIR")).join("../..");
-    [root.join("target/bin").join(proved), root.join("tests/second/target/release").join(second)]
+    [root.join("crates").join(proved).join("out").join(proved), root.join("tests/second/target/release").join(second)]
 }
 
 /// Of each input the times of both programs, and how many lines they print: the same, which is looked at first. In each

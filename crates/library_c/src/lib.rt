@@ -1,0 +1,86 @@
+#![tactic(auto)]
+
+// The library's functions for C, under the names that they have there (include/faltxigor.h).
+ghost use Rattle.std.specs.Prelude.{◌≡◌};
+ghost use Rattle.session.specs.Table.{read, pick};
+ghost use Rattle.session.specs.Fresh.{Leaves, refused_length, fresh_session};
+ghost use Rattle.sound.specs.RulesInOrder.{sound_memory};
+ghost use Rattle.sheet.specs.WholeSheet.{Ran};
+ghost use Rattle.sheet.specs.Closing.{Closes};
+ghost use Rattle.class_words.specs.Words.{Reports};
+ghost use Rattle.library.specs.Called.{Called, operation};
+ghost use Rattle.library.specs.Sheets.{ended_by, closed_by};
+
+// Writes a fresh session: the refusal, 0 if done; 1 where the memory is too short, which then stays as it was.
+#[unsafe(no_mangle)]
+pub extern "C" fn faltxigor_fresh(memory: &mut [u64]) -> u64
+    ensures answer { result ≡ refused_length memory.old }
+    ensures memory { Leaves memory.old memory.new fresh_session }
+{
+    library::faltxigor_fresh(memory)
+}
+
+// A question: whether the words are a sound session, 1 or 0.
+#[unsafe(no_mangle)]
+pub extern "C" fn faltxigor_sound(memory: &[u64]) -> u64
+    ensures { result ≡ pick (sound_memory memory.now) 1 0 }
+{
+    library::faltxigor_sound(memory)
+}
+
+// One operation: the refusal, 0 if accepted; what was made or the steps climbed, or 0, goes into `made`.
+#[unsafe(no_mangle)]
+pub extern "C" fn faltxigor_apply(
+    memory: &mut [u64],
+    code: u64,
+    f0: u64,
+    f1: u64,
+    f2: u64,
+    f3: u64,
+    f4: u64,
+    made: &mut u64,
+) -> u64
+    ensures { Called memory.old memory.new (operation code f0 f1 f2 f3 f4) result made.new }
+{
+    library::faltxigor_apply(memory, code, f0, f1, f2, f3, f4, made)
+}
+
+// A sheet's records on a session, each with its line behind the lines there: the refusal that ended the sheet, 0 at its
+// end. `used` becomes the lines' length, `place` and `number` say where the run ended.
+#[unsafe(no_mangle)]
+pub extern "C" fn faltxigor_run(
+    sheet: &[u8],
+    memory: &mut [u64],
+    lines: &mut [u8],
+    used: &mut usize,
+    place: &mut usize,
+    number: &mut u64,
+) -> u64
+    ensures { Ran sheet.now memory.old memory.new lines.old lines.new used.old (ended_by used.new place.new number.new result) (read memory.old) }
+{
+    library::faltxigor_run(sheet, memory, lines, used, place, number)
+}
+
+// The last line of a sheet behind the lines there: the refusal, 0 if done. `used` becomes the lines' length.
+#[unsafe(no_mangle)]
+pub extern "C" fn faltxigor_last_line(memory: &[u64], lines: &mut [u8], used: &mut usize) -> u64
+    ensures { Closes memory.now lines.old lines.new used.old (closed_by result used.new) }
+{
+    library::faltxigor_last_line(memory, lines, used)
+}
+
+// A part of a class report: the refusal, 0 if done. `state` says where the report stands and where the next part goes on;
+// `used` becomes the length of the part's lines.
+#[unsafe(no_mangle)]
+pub extern "C" fn faltxigor_class(
+    file: &[u8],
+    state: &mut [u64],
+    memory: &mut [u64],
+    lines: &mut [u8],
+    used: &mut usize,
+) -> u64
+    ensures { Reports file.now state.old state.new memory.old memory.new
+        lines.old lines.new used.new result }
+{
+    library::faltxigor_class(file, state, memory, lines, used)
+}
