@@ -5,38 +5,29 @@ use native.Mathlib.Omega.{arith}
 use lib.ListN.{length}
 use Rattle.number.specs.Number.{splice}
 use Rattle.number.specs.Splice.{splice_none, splice_then}
-use Rattle.record.specs.RecordReading.{record_at}
 use Rattle.listing.specs.ListingLaws.{forward, left-start, left_end, left-refused, left-read, left-length}
 use Rattle.listing.proofs.write_records.Goals as goal
-
-pub edition_of-edition-requires : goal.edition_of-edition-requires
-edition_of-edition-requires c = tt
 
 pub loop-at-init : goal.loop-at-init
 loop-at-init c =
     let a = c.args in
     (c.requires.past_head, refl, rw (left-start a.sheet.now a.first) c.requires.room, refl, refl)
 
-pub read_record-r-requires : goal.read_record-r-requires
-read_record-r-requires c = tt
-
 pub write_refusal-requires : goal.write_refusal-requires
 write_refusal-requires c =
-    let says : c.read_record-r.result ≡ record_at c.args.sheet.now c.loop-at.at =
-    rw c.edition_of-edition.ensures at c.read_record-r.ensures in
+    let says = rw c.edition_of-edition.ensures at c.read_record-r.ensures in
     let l = c.loop-at in
     let sheet = c.args.sheet.now in
-    let e = left-refused sheet l.k l.at (omega arith) l.invariant.0 _ (says) c.if-refused-gt0.true in
+    let e = left-refused sheet l.k l.at (omega arith) l.invariant.0 _ says c.if-refused-gt0.true in
     omega (arith, ap length e)
 
 pub returns-then-refused-gt0 : goal.returns-then-refused-gt0
 returns-then-refused-gt0 c =
-    let says : c.read_record-r.result ≡ record_at c.args.sheet.now c.loop-at.at =
-    rw c.edition_of-edition.ensures at c.read_record-r.ensures in
+    let says = rw c.edition_of-edition.ensures at c.read_record-r.ensures in
     let w = c.write_refusal.ensures in
     let l = c.loop-at in
     let a = c.args in
-    let e = left-refused a.sheet.now l.k l.at (omega arith) l.invariant.0 _ (says)
+    let e = left-refused a.sheet.now l.k l.at (omega arith) l.invariant.0 _ says
     c.if-refused-gt0.true in
     rw (← left-start a.sheet.now a.first)
     (record {
@@ -46,35 +37,32 @@ returns-then-refused-gt0 c =
 
 pub write_line-used-requires : goal.write_line-used-requires
 write_line-used-requires c =
-    let says : c.read_record-r.result ≡ record_at c.args.sheet.now c.loop-at.at =
-    rw c.edition_of-edition.ensures at c.read_record-r.ensures in
+    let says = rw c.edition_of-edition.ensures at c.read_record-r.ensures in
     let l = c.loop-at in
     let sheet = c.args.sheet.now in
     let z : c.read_record-r.result.refused ≡ 0 = omega arith in
-    let f = forward sheet l.k l.at (omega arith) l.invariant.0 _ (says) z in
-    let n = left-length sheet l.k l.at (omega arith) l.invariant.0 _ (says) z in
+    let f = forward sheet l.k l.at (omega arith) l.invariant.0 _ says z in
+    let n = left-length sheet l.k l.at (omega arith) l.invariant.0 _ says z in
     record { known = f.recordable.0.0; room = omega arith }
 
 pub loop-at-smaller : goal.loop-at-smaller
 loop-at-smaller c =
-    let says : c.read_record-r.result ≡ record_at c.args.sheet.now c.loop-at.at =
-    rw c.edition_of-edition.ensures at c.read_record-r.ensures in
+    let says = rw c.edition_of-edition.ensures at c.read_record-r.ensures in
     let l = c.loop-at in
     let sheet = c.args.sheet.now in
     let z : c.read_record-r.result.refused ≡ 0 = omega arith in
-    omega (arith, (forward sheet l.k l.at (omega arith) l.invariant.0 _ (says) z).onward)
+    omega (arith, (forward sheet l.k l.at (omega arith) l.invariant.0 _ says z).onward)
 
 pub loop-at-preserved : goal.loop-at-preserved
 loop-at-preserved c =
-    let says : c.read_record-r.result ≡ record_at c.args.sheet.now c.loop-at.at =
-    rw c.edition_of-edition.ensures at c.read_record-r.ensures in
+    let says = rw c.edition_of-edition.ensures at c.read_record-r.ensures in
     let w = c.write_line-used.ensures in
     let l = c.loop-at in
     let sheet = c.args.sheet.now in
     let z : c.read_record-r.result.refused ≡ 0 = omega arith in
-    let f = forward sheet l.k l.at (omega arith) l.invariant.0 _ (says) z in
-    let n = left-length sheet l.k l.at (omega arith) l.invariant.0 _ (says) z in
-    let e = left-read sheet l.k l.at (omega arith) l.invariant.0 _ (says) z in (
+    let f = forward sheet l.k l.at (omega arith) l.invariant.0 _ says z in
+    let n = left-length sheet l.k l.at (omega arith) l.invariant.0 _ says z in
+    let e = left-read sheet l.k l.at (omega arith) l.invariant.0 _ says z in (
       omega (arith, f.onward),
       c.write_line-used.auto.out ∙ l.invariant.1,
       l.invariant.2,

@@ -10,12 +10,6 @@ use Rattle.text.proofs.bad_line.Goals.{then-b-eq10, else-b-eq10}
 pub loop-i-init : goal.loop-i-init
 loop-i-init c = (omega arith, omega arith, bad_start _)
 
-pub next-mode-requires : goal.next-mode-requires
-next-mode-requires c = tt
-
-pub is_bad-requires : goal.is_bad-requires
-is_bad-requires c = tt
-
 pub returns-then-is_bad : goal.returns-then-is_bad
 returns-then-is_bad c =
     let l = c.loop-i in

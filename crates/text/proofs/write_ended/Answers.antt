@@ -1,8 +1,7 @@
 -- `text::write_ended` meets its contract: the value of a word that does not go on is written, and else nothing.
-use mathlib.Core.Path.{◌≡◌, ap, sym, ◌∙◌}
+use mathlib.Core.Path.{ap, sym, ◌∙◌}
 use native.Mathlib.Omega.{arith}
 use lib.ListN.{length}
-use Rattle.number.specs.Number.{encode}
 use Rattle.text.specs.Text.{ended, encode_all}
 use Rattle.text.specs.TextLaws.{put_none, encode_all-one, ended_on, ended_word}
 use Rattle.text.specs.declared.Mode.{Mode}
@@ -10,12 +9,10 @@ use Rattle.text.proofs.write_ended.Goals as goal
 
 pub write_number-requires : goal.write_number-requires
 write_number-requires c =
-    let word_ended : (let a = c.args in encode_all (ended a.mode a.then) ≡ encode c.in-Word.v) =
-    let then = c.args.then in
+    let e =
     ap encode_all
-    (ap (λ (m : Mode). ended m then) c.in-Word.is ∙ ended_word _ then (sym c.is_word.ensures ∙ c.if-is_word.false))
-    ∙ encode_all-one _ in
-    let e = word_ended in
+    (ap (λ (m : Mode). ended m c.args.then) c.in-Word.is ∙ ended_word _ c.args.then (sym c.is_word.ensures ∙ c.if-is_word.false))
+    ∙ encode_all-one c.in-Word.v in
     omega (arith, c.requires, ap length e)
 
 pub returns-then-is_word : goal.returns-then-is_word
@@ -32,13 +29,12 @@ returns-then-is_word c =
 
 pub returns-else-is_word : goal.returns-else-is_word
 returns-else-is_word c =
-    let word_ended : (let a = c.args in encode_all (ended a.mode a.then) ≡ encode c.in-Word.v) =
-    let then = c.args.then in
+    let e =
     ap encode_all
-    (ap (λ (m : Mode). ended m then) c.in-Word.is ∙ ended_word _ then (sym c.is_word.ensures ∙ c.if-is_word.false))
-    ∙ encode_all-one _ in
+    (ap (λ (m : Mode). ended m c.args.then) c.in-Word.is ∙ ended_word _ c.args.then (sym c.is_word.ensures ∙ c.if-is_word.false))
+    ∙ encode_all-one c.in-Word.v in
     let w = c.write_number.ensures in
-    rw (word_ended) record { answer = w.answer; bytes = w.bytes }
+    rw e record { answer = w.answer; bytes = w.bytes }
 
 pub returns-in-Between : goal.returns-in-Between
 unfolding ended

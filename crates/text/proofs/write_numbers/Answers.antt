@@ -22,9 +22,6 @@ loop-i-init c =
       rw e refl,
     )
 
-pub next-then-requires : goal.next-then-requires
-next-then-requires c = tt
-
 pub write_ended-used-requires : goal.write_ended-used-requires
 write_ended-used-requires c =
     let l = c.loop-i in
