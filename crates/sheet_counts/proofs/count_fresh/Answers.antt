@@ -1,7 +1,6 @@
 -- `sheet_counts::count_fresh` meets its contract: one refused answer where the first number is refused, and else the records.
 use mathlib.Core.Path.{sym, ◌∙◌}
 use Rattle.sheet_counts.specs.FreshSheet.{fresh_keeps, whole-refused, whole-behind}
-use borrow.Author.Rules.{rules}
 use Rattle.sheet_counts.proofs.count_fresh.Goals as goal
 
 pub count_records-requires : goal.count_records-requires

@@ -1,7 +1,6 @@
 -- `sheet_counts::count_operation` meets its contract: an answer is a refusal or an accepted operation, as the reply is.
 use mathlib.Core.Path.{sym, ◌∙◌}
 use Rattle.sheet_counts.specs.Telling.{told-refused, told-accepted}
-use borrow.Author.Rules.{rules}
 use Rattle.sheet_counts.proofs.count_operation.Goals as goal
 
 pub returns-in-Refused : goal.returns-in-Refused

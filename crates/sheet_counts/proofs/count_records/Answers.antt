@@ -1,12 +1,9 @@
 -- `sheet_counts::count_records` meets its contract: before each record the answers
 -- so far are counted, and with those from there on they are the whole sheet's.
-use Prim.Native.Nat.{◌-◌}
 use mathlib.Core.Path.{◌∙◌}
 use native.Mathlib.Omega.{arith}
-use lib.ListN.{length}
-use Rattle.sheet_counts.specs.CountingRun.{Running, running-first, running_few, running-end, running_stop, running_on}
+use Rattle.sheet_counts.specs.CountingRun.{running-first, running_few, running-end, running_stop, running_on}
 use Rattle.sheet_counts.specs.CountingRun.{onward_of}
-use borrow.Author.Rules.{rules}
 use Rattle.sheet_counts.proofs.count_records.Goals as goal
 
 pub loop-at-init : goal.loop-at-init
@@ -14,8 +11,7 @@ loop-at-init c = running-first _ _ _ c.requires.1
 
 pub count_record-requires : goal.count_record-requires
 count_record-requires c =
-    let i = c.loop-at.invariant in
-    (
+    let i = c.loop-at.invariant in (
       omega (arith, i.same_length, c.requires.0),
       i.keeps,
       c.loop-at-test.true,

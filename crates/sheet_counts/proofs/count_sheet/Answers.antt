@@ -2,7 +2,6 @@
 use Rattle.session.specs.TableLaws.{wrote_then}
 use Rattle.laws.specs.ByName.{kept-sound}
 use Rattle.laws.specs.SoundTidy.{sound_tidy}
-use borrow.Author.Rules.{rules}
 use Rattle.sheet_counts.proofs.count_sheet.Goals as goal
 
 pub renew-requires : goal.renew-requires

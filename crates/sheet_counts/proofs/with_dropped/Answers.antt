@@ -1,7 +1,6 @@
 -- `sheet_counts::with_dropped` meets its contract: the dropped count is the one that `get` reads.
 use Prim.Native.Nat.{ℕ}
 use mathlib.Core.Path.{ap}
-use borrow.Author.Rules.{rules}
 use Rattle.sheet_counts.proofs.with_dropped.Goals as goal
 
 pub returns : goal.returns

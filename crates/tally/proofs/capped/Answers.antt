@@ -1,7 +1,6 @@
 -- `tally::capped` meets its contract: a sum past the largest stays at it (`sum_stays`), another is the sum (`sum_is`).
 use mathlib.Core.Path.{sym}
 use native.Mathlib.Omega.{arith}
-use borrow.Author.Rules.{rules}
 use Rattle.tally.specs.Raise.{sum_is, sum_stays}
 use Rattle.tally.proofs.capped.Goals as goal
 

@@ -1,5 +1,4 @@
 -- `tally::raised` meets its contract: each of the four counts by `capped`, put together by `raise-each`.
-use borrow.Author.Rules.{rules}
 use Rattle.tally.specs.Raise.{raise-each}
 use Rattle.tally.proofs.raised.Goals as goal
 
