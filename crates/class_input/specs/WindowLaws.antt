@@ -1,8 +1,11 @@
 -- What the class program reads keeps what it promises of it: laws about the window.
-use Rattle.std.specs.Prelude.{ℕ, ◌+◌, ◌-◌, ◌≤◌, ◌<◌, ◌≡◌, refl, ◌⊎◌, length, take, drop}
+use Rattle.std.specs.Prelude.{ℕ, ◌+◌, ◌-◌, ◌≤◌, ◌<◌, ◌≡◌, refl, ◌⊎◌, Option, length, take, drop}
 use mathlib.Core.List.{List, [], ◌++◌, append_assoc, append-nil}
 use Rattle.std.proofs.Math.Path.{ap, sym}
-use Rattle.std.proofs.Common.{subst, ◌∙◌, inl, inr, arith, length-drop, length-take-le, take-take, drop-drop, take-add, take_at, drop_at}
+use Rattle.std.proofs.Common.{subst, ◌∙◌, inl, inr, arith, length-append, length-drop, length-take-le, take-take, drop-drop, take-add, take_at, drop_at}
+use Rattle.std.specs.Io.KnownBytes.{Consumes}
+use Rattle.std.proofs.KnownBytes.{Consumes-nil, Consumes-trans}
+use lib.Seq.{take-append-le}
 use borrow.Rule.Slice.PartMut.{mid_of, put_mid, same_len_mid, mid_len, take_put, drop_put}
 use Rattle.number.specs.Number.{splice}
 use Rattle.number.specs.Splice.{splice-length, splice_before, splice-from, splice-behind}
@@ -45,6 +48,11 @@ least_either a b = choose_case (λ (m : ℕ). (m ≡ a) ⊎ (m ≡ b)) (a ≼ b)
 pub is-least : (a b k : ℕ) → (a ≤ b → k ≡ a) → (b ≤ a → k ≡ b) → k ≡ least a b
 is-least a b k below above = choose_case (λ (m : ℕ). k ≡ m) (a ≼ b) a b below (λ n. above (omega arith))
 
+-- the least that is not the first is the second, and below the first
+pub least_some : (a b k : ℕ) → k ≡ least a b → (k ≡ a → ⊥) → (k ≡ b) × (b < a)
+least_some a b k =
+    choose_case (λ (m : ℕ). k ≡ m → (k ≡ a → ⊥) → (k ≡ b) × (b < a)) (a ≼ b) a b (λ _ e n. absurd (n e)) (λ h e n. (e, omega arith))
+
 -- the window as it was, and one that was read where it was empty
 module _ (w : Window) (left : ℕ) (input : List ℕ) where
   pub filled-same : Inside w input → Filled w left input input w
@@ -59,6 +67,24 @@ module _ (w : Window) (left : ℕ) (input : List ℕ) where
         order = rw (part_none input w.from w.to (omega arith)) refl;
         few = inr (omega (arith, few));
       }
+
+  -- and what came is what a reader had next: nothing where no read was made, else what it gave
+  pub filled_unread : (known : Option (List ℕ)) → Inside w input
+      → (f : Filled w left input input w) × Consumes known known f.came
+  unfolding filled-same
+  filled_unread known i = (filled-same i, Consumes-nil known)
+
+  pub filled_read : (old new : Option (List ℕ)) (bytes rest : List ℕ) (got : ℕ) → (w.from < w.to → ⊥) → got ≤ length bytes
+      → got ≤ 1 + behind left → Consumes old new (take got bytes)
+      → (f : Filled w left input (bytes ++ rest) (record { from = 0; to = got })) × Consumes old new f.came
+  unfolding filled-new
+  filled_read old new bytes rest got none within few read =
+      let whole : got - 0 ≡ got = omega arith in
+      let same : take (got - 0) (bytes ++ rest) ≡ take got bytes =
+      ap (λ (n : ℕ). take n (bytes ++ rest)) whole ∙ take-append-le got bytes rest within in (
+        filled-new (bytes ++ rest) got none (omega (arith, within, length-append bytes rest)) few,
+        subst (λ (l : List ℕ). Consumes old new l) (sym same) read,
+      )
 
 pub apart_same : (room room' : List ℕ) (place n : ℕ) → room' ≡ room → Apart room room' place n
 apart_same room room' place n e = record { long = ap length e; front = ap (take place) e; back = ap (drop (place + n)) e }
@@ -94,6 +120,30 @@ given_none r w place input room nothing long is i ahead =
       few = fewer_ahead r (size_of w) ahead (place - place + size_of w) (omega arith);
       stays = refl;
     }
+
+-- and what came is what a reader had next: nothing
+pub given_unread : (known : Option (List ℕ)) (r : Report) (w : Window) (place : ℕ) (input room : List ℕ) → asks r ≡ 0
+    → length room ≡ 65536 → place ≡ free_half r.pending → Inside w input → Ahead r (size_of w)
+    → (g : Given r w place input input room room (record { end = place; window = w })) × Consumes known known g.came
+unfolding given_none
+given_unread known r w place input room nothing long is i ahead =
+    (given_none r w place input room nothing long is i ahead, Consumes-nil known)
+
+-- nothing is read between a place and itself
+pub came_none : (known : Option (List ℕ)) (room : List ℕ) (place : ℕ) → Consumes known known (part room place place)
+came_none known room place = rw (part_none room place place (omega arith)) (Consumes-nil known)
+
+-- a window is no smaller once it is filled
+pub filled_grows : (w : Window) (left : ℕ) (input input' : List ℕ) (full : Window) → Inside w input → Filled w left input input' full
+    → size_of w ≤ size_of full
+filled_grows w left input input' full i f =
+    omega (
+      arith,
+      part_length input w.from w.to i.1,
+      part_length input' full.from full.to f.inside.1,
+      ap length f.order,
+      length-append (bytes_of w input) f.came,
+    )
 
 -- What a report asks for, handed: first of the window as it is then,
 -- into the free half, and the rest, if it was used up, from a read.
@@ -221,3 +271,17 @@ module _ (r : Report) (w full : Window) (place n k last : ℕ) (input input' roo
         few = few ended;
         stays = pending_stays room room' n r.pending most half (subst (λ (at : ℕ). Apart room room' at n) is apart);
       }
+
+  -- and what came is what a reader had next: what came into the window, and what came behind it
+  module _ (old mid new : Option (List ℕ)) (into : Consumes old mid f.came) (behind_it : Consumes mid new (part room' (place + k) last)) where
+    came-read : (c : Ended) → Consumes old new (came c)
+    unfolding came
+    came-read (inl e) =
+        let none : part room' (place + k) last ≡ [] = part_none room' (place + k) last (omega arith) in
+        subst (Consumes old new) (append-nil f.came) (Consumes-trans old mid new f.came [] into (subst (Consumes mid new) none behind_it))
+    came-read (inr e) = Consumes-trans old mid new f.came (part room' (place + k) last) into behind_it
+
+    pub given_came : (g : Given r w place input input' room room'
+        (record { end = last; window = record { from = full.from + k; to = full.to } })) × Consumes old new g.came
+    unfolding given-read came
+    given_came = (given-read, came-read ended)

@@ -1,14 +1,18 @@
 #![tactic(auto)]
 
-// What the class program reads of standard input: ahead of what is asked for, but no byte past the last sheet.
-ghost use Rattle.std.specs.Prelude.{◌+◌, ◌-◌, ◌≤◌, ◌≡◌, length};
+// What the class program reads of its input: ahead of what is asked for, but no byte past the last sheet.
+ghost use Rattle.std.specs.Prelude.{◌+◌, ◌-◌, ◌<◌, ◌≤◌, ◌≡◌, length, IfOk, OnErr};
+ghost use Rattle.std.specs.Io.KnownBytes.{Consumes, IsAtEnd};
 ghost use Rattle.number.specs.Number.{splice};
 ghost use Rattle.turns.specs.MemoryPlaces.{least};
 ghost use Rattle.class.specs.Halves.{InHalf, Apart, free_half};
+ghost use Rattle.class.specs.Steps.{asks, pending_in};
 ghost use Rattle.class_input.specs.Ahead.{behind, Ahead};
-ghost use Rattle.class_input.specs.Window.{part, Inside, Filled, Given};
+ghost use Rattle.class_input.specs.Window.{part, size_of, Inside, Filled, Given};
 
 use class::Report;
+use std::io;
+use std::io::Read;
 
 // How many bytes are read ahead at most; the numbers of more entries than these take as many.
 pub const INPUT: usize = 16384;
@@ -43,20 +47,20 @@ fn may_read(left: u64) -> usize
     1 + 3 * (left - 1) as usize
 }
 
-// The same window or, in place of one that is empty, what one read gives; nothing, if the input has ended.
-fn fill(window: Window, left: u64, input: &mut [u8]) -> Window
+// The same window or, in place of one that is empty, what one read gives; nothing, if the input has ended. An error is that read's.
+fn fill<R: Read>(reader: &mut R, window: Window, left: u64, input: &mut [u8]) -> io::Result<Window>
     requires { (length input.old ≡ 16384) × Inside window input.old }
-    ensures { Filled window left input.old input.new result }
+    ensures filled { IfOk result (λ w. (f : Filled window left input.old input.new w)
+        × Consumes (R.remaining reader.old) (R.remaining reader.new) f.came) }
+    ensures ended { IfOk result (λ w. size_of w ≡ 0 → IsAtEnd (R.remaining reader.new)) }
+    ensures needed { OnErr result (size_of window ≡ 0) }
 {
     if window.from < window.to {
-        return window;
+        return Ok(window);
     }
     let most = may_read(left);
-    let got = libc::read(0, &mut input[..most]);
-    Window {
-        from: 0,
-        to: io::count(got, &input[..most]),
-    }
+    let got = reader.read(&mut input[..most])?;
+    Ok(Window { from: 0, to: got })
 }
 
 // Copies as many bytes as are asked for, or all of the window, to a place; how many those are.
@@ -72,33 +76,44 @@ fn hand(window: Window, n: usize, input: &[u8], place: usize, room: &mut [u8]) -
     k
 }
 
-// Reads into the memory from a place to another, until it is full there or the input ends; the place behind what was read.
-fn read_rest(room: &mut [u8], from: usize, to: usize) -> usize
+// Reads into the memory from a place to another, until it is full there or the input ends; the place behind what was read. Nothing
+// else changes where a read fails.
+fn read_rest<R: Read>(reader: &mut R, room: &mut [u8], from: usize, to: usize) -> io::Result<usize>
     requires { (from ≤ to) × (to ≤ length room.old) }
-    ensures lower_bound { (from ≤ result) × (result ≤ to) }
+    ensures lower_bound { IfOk result (λ end. (from ≤ end) × (end ≤ to)) }
+    ensures came { IfOk result (λ end. Consumes (R.remaining reader.old) (R.remaining reader.new) (part room.new from end)) }
+    ensures ended { IfOk result (λ end. end < to → IsAtEnd (R.remaining reader.new)) }
     ensures apart { Apart room.old room.new from (to - from) }
 {
-    from + io::read_full(0, &mut room[from..to])
+    let n = streams::read_full(reader, &mut room[from..to])?;
+    Ok(from + n)
 }
 
 // Puts what a report asks for into the half of the memory in which no pending sheet lies, which stays as it is: what was read and not
-// handed yet comes first. Internal: callers have shown that no more was read than may be, and where the pending sheet lies.
-pub fn read_asked(
+// handed yet comes first. An error is that of a read, which is tried only where less was there than is asked for; the pending sheet
+// stays then too. Internal: callers have shown that no more was read than may be, and where the pending sheet lies.
+pub fn read_asked<R: Read>(
+    reader: &mut R,
     report: Report,
     window: Window,
     input: &mut [u8],
     place: usize,
     room: &mut [u8],
-) -> Handed
+) -> io::Result<Handed>
     requires input_len { (length input.old ≡ 16384) × Inside window input.old × Ahead report (window.to - window.from) }
     requires room_len { (length room.old ≡ 65536) × InHalf report.pending × (place ≡ free_half report.pending) }
-    ensures { Given report window place input.old input.new room.old room.new result }
+    ensures given { IfOk result (λ h. (g : Given report window place input.old input.new room.old room.new h)
+        × Consumes (R.remaining reader.old) (R.remaining reader.new) g.came) }
+    ensures ended { IfOk result (λ h. (h.end - place) < asks report → IsAtEnd (R.remaining reader.new)) }
+    ensures needed { OnErr result (size_of window < asks report) }
+    ensures stays { OnErr result ((length input.new ≡ length input.old) × (length room.new ≡ length room.old)
+        × (pending_in room.new report.pending ≡ pending_in room.old report.pending)) }
 {
     let n = class::asks(report);
     if n == 0 {
-        return Handed { end: place, window };
+        return Ok(Handed { end: place, window });
     }
-    let full = fill(window, report.left, input);
+    let full = fill(reader, window, report.left, input)?;
     let k = hand(full, n, input, place, room);
     let rest = Window {
         from: full.from + k,
@@ -106,11 +121,11 @@ pub fn read_asked(
     };
     let first = place + k;
     if k == 0 || k == n {
-        return Handed {
+        return Ok(Handed {
             end: first,
             window: rest,
-        };
+        });
     }
-    let end = read_rest(room, first, place + n);
-    Handed { end, window: rest }
+    let end = read_rest(reader, room, first, place + n)?;
+    Ok(Handed { end, window: rest })
 }

@@ -2,12 +2,27 @@
 
 // Prints a sheet as text: reads standard input, whose first 32,768 bytes at most are the sheet, and writes a line for each record,
 // with the operation's name in a comment. What can not be read is told in a comment at the end.
-fn main() {
+ghost use Rattle.std.specs.Prelude.{IfSome, OnOk, take};
+ghost use Rattle.std.specs.Io.KnownBytes.{Appends};
+ghost use Rattle.listing.specs.Listing.{text_of};
+
+use std::io;
+use std::io::{Read, Write};
+
+// Reads a sheet, and writes its text. An error is that of a read or of a write; of the write alone some bytes may have been written.
+fn run<R: Read, W: Write>(reader: &mut R, writer: &mut W) -> io::Result<()>
+    ensures { OnOk result (IfSome (R.remaining reader.old) (λ input.
+        Appends (W.contents writer.old) (W.contents writer.new) (text_of (take 32768 input)))) }
+{
     let mut sheet = [0u8; 32768];
-    let n = io::read_full(0, &mut sheet);
+    let n = streams::read_full(reader, &mut sheet)?;
     // 16 bytes of text for each byte of the sheet, and 64 more
     let mut out = [0u8; 524352];
     let printed = listing::to_text(&sheet[..n], &mut out);
     let used = printed.used;
-    io::write_all(1, &out[..used]);
+    writer.write_all(&out[..used])
+}
+
+fn main(rt: HostRuntime) -> io::Result<()> {
+    run(&mut rt.stdin(), &mut rt.stdout())
 }
