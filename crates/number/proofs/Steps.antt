@@ -2,7 +2,7 @@
 use Prim.Native.Nat.{ℕ, zero, suc, ◌+◌, ◌-◌, ◌*◌, ◌/◌, ◌%◌, ◌≤◌, ◌<◌}
 use mathlib.Core.Bool.{true, false}
 use mathlib.Core.List.{List, [], ◌∷◌}
-use mathlib.Core.Path.{◌≡◌, refl, ap, ◌∙◌}
+use mathlib.Core.Path.{◌≡◌, refl, ap, sym, ◌∙◌}
 use native.Mathlib.Omega.{arith}
 use native.Mathlib.Numerals.{add-one}
 use lib.ListN.{length, get_or, take, drop, length-drop, drop_of_length-le}
@@ -10,6 +10,10 @@ use lib.Seq.{drop-cons, drop-length}
 use borrow.Author.Tests.{lt-ltb, le-ltb}
 use Rattle.number.specs.Number.{more, value, last_byte, shortest, judged, read_at}
 use Rattle.number.specs.Decode.{more_last, more_on, shortest_several}
+use Rattle.number.specs.Fed.{group_fits, fed}
+use Rattle.number.specs.FedCases.{short_first, short_zero, fed_long, fed-whole}
+use Rattle.number.specs.declared.reader.Reader.{Reader}
+use Rattle.number.specs.declared.reader.Fed.TheVariants.{Whole, Bad as BadFed}
 use Rattle.number.specs.NumberCases.{judged-above, read_ends, read-cut}
 use Rattle.number.specs.declared.Reading.TheVariants.{Bad, CutShort}
 
@@ -110,3 +114,15 @@ shortest_yes number h n =
 
 pub shortest_no : (number : List ℕ) → 1 < length number → get_or number (length number - 1) 0 ≡ 0 → shortest number ≡ false
 shortest_no number h e = shortest_several number h ∙ le-ltb 0 (last_byte number) (omega (arith, last_byte-at number (omega arith)))
+
+-- What a last byte gives, by the branches of `feed`.
+pub fed_zero : (limit : ℕ) (r : Reader) (byte : ℕ) → byte < 128 → byte ≡ 0 → 1 < r.weight → BadFed ≡ fed limit r byte
+fed_zero limit r byte l z w = sym (fed_long limit r byte l (short_zero r byte w z))
+
+pub fed_first : (limit : ℕ) (r : Reader) (byte g : ℕ)
+    → byte < 128
+    → g ≡ byte % 128
+    → group_fits limit r byte ≡ true
+    → r.weight ≤ 1
+    → Whole (r.value + g * r.weight) ≡ fed limit r byte
+fed_first limit r byte g l e f w = rw e (sym (fed-whole limit r byte l f (short_first r byte w)))

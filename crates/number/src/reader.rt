@@ -30,6 +30,7 @@ pub fn start() -> Reader
 }
 
 // Feeds a byte.
+#[tactic(auto, using(crate::proofs::Steps::fed_zero, crate::proofs::Steps::fed_first))]
 pub fn feed(reader: Reader, byte: u8, limit: u64) -> Fed
     ensures { result ≡ fed limit reader byte }
 {
