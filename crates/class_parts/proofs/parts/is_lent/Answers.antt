@@ -4,25 +4,21 @@ use mathlib.Core.Path.{sym}
 use native.Mathlib.Omega.{arith}
 use Rattle.rules.specs.FormulaLaws.{passes, fails}
 use Rattle.class_parts.specs.ReportParts.{lends}
-use Rattle.class_parts.proofs.parts.is_lent.Statement.{statement}
-use Rattle.class_parts.proofs.parts.is_lent.Tie as tie
+use Rattle.class_parts.proofs.parts.is_lent.Goals as goal
 
-returns : tie.Need-returns
-returns c =
-    let a = c.before.args in
+pub returns-then-lines-lt-ROOM : goal.returns-then-lines-lt-ROOM
+returns-then-lines-lt-ROOM c =
+    let a = c.args in
     sym (fails (lends a.memory.now a.lines.now)
     (λ (h : Holds (lends a.memory.now a.lines.now)). omega (arith, h.0)))
 
-returns-2 : tie.Need-returns-2
-returns-2 c =
-    let a = c.before.before.args in
+pub returns-then-memory-lt-WORDS : goal.returns-then-memory-lt-WORDS
+returns-then-memory-lt-WORDS c =
+    let a = c.args in
     sym (fails (lends a.memory.now a.lines.now)
     (λ (h : Holds (lends a.memory.now a.lines.now)). omega (arith, h.1)))
 
-returns-3 : tie.Need-returns-3
-returns-3 c =
-    let a = c.before.before.args in
+pub returns : goal.returns
+returns c =
+    let a = c.args in
     sym (passes (lends a.memory.now a.lines.now) (omega arith, omega arith))
-
-pub is-lent-spec : {M : Type 1} → statement M
-is-lent-spec = tie.close (tie.spec returns returns-2 returns-3)
