@@ -1,8 +1,9 @@
 #!/usr/bin/env python3
 """Holds docs/RULES.md to the repository: every name in it is there, and every sentence has one or says why not.
 
-A name in backquotes is `File.name` of crates/rules/specs, `crate/File.name` of that crate's specs, `name` of the file named
-before it in the same row, `crate::name` or `crate::module::name` of the code, or a path. It must be declared there.
+A name in backquotes is `File.name` of crates/rules, `crate/File.name` of that crate, `name` of the file named before it in the
+same row, each in specs/ or, of a theorem, in proofs/; `crate::name` or `crate::module::name` of the code; or a path. It must be
+declared there.
   rules_page.py [PAGE]    another page than docs/RULES.md
 Prints each name that is not there, and last `N passed, M failed`.
 """
@@ -29,12 +30,13 @@ def text(*path):
 
 
 def declared(crate, file):
-    """The names that a file of a crate's specs declares."""
+    """The names that a crate's file of definitions declares, or of theorems."""
     names = set()
-    for line in text('crates', crate, 'specs', file + '.antt').splitlines():
-        match = SIGNATURE.match(line)
-        if match:
-            names.update(match.group(1).split())
+    for folder in ('specs', 'proofs'):
+        for line in text('crates', crate, folder, file + '.antt').splitlines():
+            match = SIGNATURE.match(line)
+            if match:
+                names.update(match.group(1).split())
     return names
 
 
