@@ -15,8 +15,7 @@ ghost use Rattle.library.specs.Sheets.{ended_by, closed_by};
 use rules::{Answer, Operation};
 
 // Writes a fresh session: the refusal, 0 if done; 1 where the memory is too short, which then stays as it was.
-#[unsafe(no_mangle)]
-pub extern "C" fn faltxigor_fresh(memory: &mut [u64]) -> u64
+pub fn faltxigor_fresh(memory: &mut [u64]) -> u64
     ensures answer { result ≡ refused_length memory.old }
     ensures memory { Leaves memory.old memory.new fresh_session }
 {
@@ -24,8 +23,7 @@ pub extern "C" fn faltxigor_fresh(memory: &mut [u64]) -> u64
 }
 
 // A question: whether the words are a sound session, 1 or 0.
-#[unsafe(no_mangle)]
-pub extern "C" fn faltxigor_sound(memory: &[u64]) -> u64
+pub fn faltxigor_sound(memory: &[u64]) -> u64
     ensures { result ≡ pick (sound_memory memory.now) 1 0 }
 {
     if !sound::is_sound(memory) {
@@ -52,8 +50,7 @@ pub fn tell(answer: Answer, made: &mut u64) -> u64
 }
 
 // One operation: the refusal, 0 if accepted; what was made or the steps climbed, or 0, goes into `made`.
-#[unsafe(no_mangle)]
-pub extern "C" fn faltxigor_apply(
+pub fn faltxigor_apply(
     memory: &mut [u64],
     code: u64,
     f0: u64,
@@ -75,8 +72,7 @@ pub extern "C" fn faltxigor_apply(
 // A sheet's records on a session, each with its line behind the lines there: the refusal that ended the sheet, 0 at its
 // end. `used` becomes the lines' length, `place` and `number` say where the run ended. A session that every operation keeps
 // sound is looked at once; any other at each record.
-#[unsafe(no_mangle)]
-pub extern "C" fn faltxigor_run(
+pub fn faltxigor_run(
     sheet: &[u8],
     memory: &mut [u64],
     lines: &mut [u8],
@@ -94,8 +90,7 @@ pub extern "C" fn faltxigor_run(
 }
 
 // The last line of a sheet behind the lines there: the refusal, 0 if done. `used` becomes the lines' length.
-#[unsafe(no_mangle)]
-pub extern "C" fn faltxigor_last_line(memory: &[u64], lines: &mut [u8], used: &mut usize) -> u64
+pub fn faltxigor_last_line(memory: &[u64], lines: &mut [u8], used: &mut usize) -> u64
     ensures { Closes memory.now lines.old lines.new used.old (closed_by result used.new) }
 {
     let closed = sheet::put_last_line(memory, lines, *used);
@@ -105,8 +100,7 @@ pub extern "C" fn faltxigor_last_line(memory: &[u64], lines: &mut [u8], used: &m
 
 // A part of a class report: the refusal, 0 if done. `state` says where the report stands, eighteen words that are 0 before the
 // first part, and where the next part goes on; its first word is 7 when nothing is left. `used` becomes the length of the part's lines.
-#[unsafe(no_mangle)]
-pub extern "C" fn faltxigor_class(
+pub fn faltxigor_class(
     file: &[u8],
     state: &mut [u64],
     memory: &mut [u64],

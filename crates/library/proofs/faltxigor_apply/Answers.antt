@@ -1,0 +1,12 @@
+-- `library::faltxigor_apply` meets its contract: what `apply` answered, as two numbers (`called`).
+use Rattle.library.specs.Called.{operation, called}
+use Rattle.library.proofs.faltxigor_apply.Goals as goal
+
+pub returns : goal.returns
+returns c =
+    let t = c.tell.ensures in
+    let call = c.apply in
+    let a = c.args in
+    rw (t.refused, t.made)
+    (called a.memory.now call.new.memory (operation a.code a.f0 a.f1 a.f2 a.f3 a.f4) call.result
+    call.ensures)
