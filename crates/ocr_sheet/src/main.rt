@@ -19,7 +19,12 @@ const SHEET: usize = 32768;
 const PART: usize = 16384;
 
 // Writes the lines of a sheet that is run on a fresh session, part by part. An error is that of a write.
-fn print<W: Write>(writer: &mut W, sheet: &[u8], memory: &mut [u64], lines: &mut [u8]) -> io::Result<()>
+fn print<W: Write>(
+    writer: &mut W,
+    sheet: &[u8],
+    memory: &mut [u64],
+    lines: &mut [u8],
+) -> io::Result<()>
     requires ready { Ready memory.old lines.old }
     requires fresh { read memory.old ≡ fresh_session }
     ensures { OnOk result (Appends (W.contents writer.old) (W.contents writer.new) (output sheet.now)) }
