@@ -1,5 +1,4 @@
--- The tasks above a task: its creator, that one's creator and so on; and marks that show which tasks have a live descendant, made from
--- the last live task down.
+-- The tasks above a task: its creator, that one's creator and so on; and marks that show which tasks have a live descendant.
 use Prim.Native.Nat.{ℕ, zero, suc, ◌+◌, ◌≤◌, ◌<◌}
 use Rattle.std.specs.Prelude.{◌≡◌, refl, List, ◌⊎◌, length, set, replicate}
 use Rattle.std.proofs.Common.{sym, ◌∙◌, subst, ap, get_or-set_same, get_or-set_other}
@@ -11,7 +10,7 @@ use Rattle.std.proofs.lemmas.List.{get_or-replicate}
 use Rattle.session.specs.Names.{most_objects, object_places}
 use Rattle.session.specs.Table.{Session}
 use Rattle.session.specs.declared.Field.TheVariants.{Objects, TaskCreator}
-use Rattle.rules.specs.Formula.{Formula, Holds, choose, Formula.◌≼◌, Formula.◌and◌, Formula.some, Formula.never}
+use Rattle.rules.specs.Formula.{Formula, Holds, choose, Formula.◌and◌, Formula.some, Formula.never}
 use Rattle.rules.specs.FormulaLaws.{Case, decide, choose_yes, choose_no, choose-same, Case.it_does, Case.it_does_not}
 use Rattle.rules.specs.Reading.{is_live}
 use Rattle.rules.specs.Descendants.{under, busy}
@@ -29,9 +28,9 @@ creator_low s falls h l = go (dec_lt 0 (s TaskCreator h))
 unfoldable pub Shows : List ℕ → (ℕ → Formula) → Type 0
 Shows m f = (a : ℕ) → a < object_places → get_or m a 0 ≡ choose (f a) 1 0
 
--- some descendant of a with the handle n or a higher one is live
-unfoldable pub busy_from : Session → ℕ → ℕ → Formula
-busy_from s n a = some (s Objects 0 + 1) (λ h. n ≼ h and is_live s h and under (s TaskCreator) h h a)
+-- some descendant of a among the first n handles is live
+unfoldable pub busy_below : Session → ℕ → ℕ → Formula
+busy_below s n a = some n (λ h. is_live s h and under (s TaskCreator) h h a)
 
 -- whatever is marked, and is not h, has a marked creator or none
 unfoldable pub ClosedBut : Session → List ℕ → ℕ → Type 0
@@ -160,69 +159,59 @@ module _ (s : Session) (falls : Falls s) where
           ∙ sym (choose_no (under c h h a) 1 (get_or m a 0) (λ x. neither a n w (under_down s falls h a l x)))
 
   -- marks of what is busy are closed
-  pub shows_closed : (m : List ℕ) (h : ℕ) → s Objects 0 ≤ most_objects → Shows m (busy_from s (h + 1)) → ClosedBut s m h
-  unfolding Shows busy_from ClosedBut
-  shows_closed m h b x a q ne e up = go (marked-holds (busy_from s (h + 1) a) (sym (x a q) ∙ e))
+  pub shows_closed : (m : List ℕ) (h : ℕ) → s Objects 0 ≤ most_objects → h ≤ s Objects 0 → Shows m (busy_below s h)
+      → ClosedBut s m h
+  unfolding Shows busy_below ClosedBut
+  shows_closed m h b l x a q ne e up = go (marked-holds (busy_below s h a) (sym (x a q) ∙ e))
     where
-      go : Holds (busy_from s (h + 1) a) → get_or m (c a) 0 ≡ 1
-      go (k, l, (later, (live, u))) =
-          let v : Holds (under c k k (c a)) =
-          under_enough c (s Objects 0) falls (suc k) k k (c a) (omega arith) (omega arith) (under_next k k a up u) in
-          let low : c a < k = under_lower s falls k k (c a) (omega arith) v in
-          x (c a) (omega arith) ∙ choose_yes (busy_from s (h + 1) (c a)) 1 0 (k, l, (later, (live, v)))
+      go : Holds (busy_below s h a) → get_or m (c a) 0 ≡ 1
+      go y =
+          let k : ℕ = y.0 in
+          let kh : k < h = y.1 in
+          let u : Holds (under c k k (c a)) =
+          under_enough c (s Objects 0) falls (suc k) k k (c a) (omega arith) (omega arith) (under_next k k a up y.2.1) in
+          let low : c a < k = under_lower s falls k k (c a) (omega arith) u in
+          x (c a) (omega arith) ∙ choose_yes (busy_below s h (c a)) 1 0 (k, kh, (y.2.0, u))
 
-  -- one more live task passed
-  pub shows_more : (m after : List ℕ) (h : ℕ) → h ≤ s Objects 0 → Holds (is_live s h) → Shows m (busy_from s (h + 1))
-      → Above s m after h → Shows after (busy_from s h)
-  unfolding Shows busy_from
-  shows_more m after h l live x r a q = r.marks a q ∙ go (decide (under c h h a))
+  -- one more handle looked at
+  pub shows_more : (m after : List ℕ) (h : ℕ) → Holds (is_live s h) → Shows m (busy_below s h) → Above s m after h
+      → Shows after (busy_below s (h + 1))
+  unfolding Shows busy_below
+  shows_more m after h live x r a q = r.marks a q ∙ go (decide (under c h h a))
     where
-      later : (Holds (under c h h a) → ⊥) → (i : ℕ) → h ≤ i → Holds (is_live s i and under c i i a) → Places i h → h + 1 ≤ i
-      later n i b y (one e) = absurd (n (subst (λ (k : ℕ). Holds (under c k k a)) e y.1))
-      later n i b y (two e) = omega arith
+      old : (Holds (under c h h a) → ⊥) → (i : ℕ) → i < h + 1 → Holds (is_live s i and under c i i a) → Places i h
+          → Holds (busy_below s h a)
+      old n i b y (one e) = absurd (n (subst (λ (k : ℕ). Holds (under c k k a)) e y.1))
+      old n i b y (two e) = (i, omega arith, y)
 
-      go : Case (under c h h a) → choose (under c h h a) 1 (get_or m a 0) ≡ choose (busy_from s h a) 1 0
+      go : Case (under c h h a) → choose (under c h h a) 1 (get_or m a 0) ≡ choose (busy_below s (h + 1) a) 1 0
       go (it_does y) =
-          choose_yes (under c h h a) 1 (get_or m a 0) y
-          ∙ sym (choose_yes (busy_from s h a) 1 0 (h, omega arith, (omega arith, (live, y))))
+          choose_yes (under c h h a) 1 (get_or m a 0) y ∙ sym (choose_yes (busy_below s (h + 1) a) 1 0 (h, omega arith, (live, y)))
       go (it_does_not n) =
           choose_no (under c h h a) 1 (get_or m a 0) n ∙ x a q
-          ∙ choose-same (busy_from s (h + 1) a) (busy_from s h a) 1 0
-          (λ y. let b = y.2.0 in (y.0, y.1, (omega arith, y.2.1)))
-          (λ y. (y.0, y.1, (later n y.0 y.2.0 y.2.1 (places y.0 h), y.2.1)))
+          ∙ choose-same (busy_below s h a) (busy_below s (h + 1) a) 1 0 (λ y. (y.0, (let b = y.1 in omega arith), y.2))
+          (λ y. old n y.0 y.1 y.2 (places y.0 h))
 
-  -- once all are passed: whoever descends from somebody has a handle
-  pub shows_all : (m : List ℕ) → Shows m (busy_from s 1) → Shows m (busy s)
-  unfolding Shows busy_from
-  shows_all m x a q =
-      x a q
-      ∙ choose-same (busy_from s 1 a) (busy s a) 1 0 (λ y. (y.0, y.1, y.2.1))
-      (λ y. (y.0, y.1, (some y.0 y.1 y.2.1, y.2)))
-    where
-      some : (h : ℕ) → h < s Objects 0 + 1 → Holds (under c h h a) → 1 ≤ h
-      some h l u = let b : a < h = under_lower s falls h h a (omega arith) u in omega arith
+-- a handle that is no live task adds nothing
+pub shows_skip : (s : Session) (m : List ℕ) (h : ℕ) → (Holds (is_live s h) → ⊥) → Shows m (busy_below s h)
+    → Shows m (busy_below s (h + 1))
+unfolding Shows busy_below
+shows_skip s m h dead x a q =
+    x a q ∙ choose-same (busy_below s h a) (busy_below s (h + 1) a) 1 0 (λ y. (y.0, (let b = y.1 in omega arith), y.2))
+    (λ y. old y.0 y.1 y.2 (places y.0 h))
+  where
+    old : (i : ℕ) → i < h + 1 → Holds (is_live s i and under (s TaskCreator) i i a) → Places i h → Holds (busy_below s h a)
+    old i b y (one e) = absurd (dead (subst (λ (k : ℕ). Holds (is_live s k)) e y.0))
+    old i b y (two e) = (i, omega arith, y)
 
-module _ (s : Session) (m : List ℕ) where
-  -- before the first
-  pub shows_none : Shows m (λ a. never) → Shows m (busy_from s (s Objects 0 + 1))
-  unfolding Shows busy_from
-  shows_none x a q =
-      x a q
-      ∙ choose-same never (busy_from s (s Objects 0 + 1) a) 1 0 (λ z. absurd z) (λ y. let b = y.1 in let l = y.2.0 in omega arith)
+-- before the first, and after the last
+pub shows_none : (s : Session) (m : List ℕ) → Shows m (λ a. never) → Shows m (busy_below s 0)
+unfolding Shows busy_below
+shows_none s m x a q = x a q ∙ choose-same never (busy_below s 0 a) 1 0 (λ z. absurd z) (λ y. let b = y.1 in omega arith)
 
-  -- handles without a live task add nothing
-  pub shows_skip : (high r : ℕ) → r ≤ high → ((i : ℕ) → r < i → i ≤ high → Holds (is_live s i) → ⊥) → Shows m (busy_from s (high + 1))
-      → Shows m (busy_from s (r + 1))
-  unfolding Shows busy_from
-  shows_skip high r b dead x a q =
-      x a q
-      ∙ choose-same (busy_from s (high + 1) a) (busy_from s (r + 1) a) 1 0
-      (λ y. let l = y.2.0 in (y.0, y.1, (omega arith, y.2.1)))
-      (λ y. (y.0, y.1, (later y.0 y.2.0 y.2.1.0 (dec_lt high y.0), y.2.1)))
-    where
-      later : (i : ℕ) → r + 1 ≤ i → Holds (is_live s i) → Dec (high < i) → high + 1 ≤ i
-      later i l live (yes d) = omega arith
-      later i l live (no n) = absurd (dead i (omega arith) (omega arith) live)
+pub shows_all : (s : Session) (m : List ℕ) (n : ℕ) → n ≡ s Objects 0 + 1 → Shows m (busy_below s n) → Shows m (busy s)
+unfolding Shows busy_below
+shows_all s m n e x = rw e at x
 
 pub shows_zeros : Shows (replicate object_places 0) (λ a. never)
 unfolding Shows

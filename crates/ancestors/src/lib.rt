@@ -1,9 +1,8 @@
 #![tactic(auto)]
 
-// Which tasks have a live descendant, by marks at their handles.
-mod live;
+pub mod live;
 
-ghost use Rattle.std.specs.Prelude.{◌≡◌, ◌≤◌, length};
+ghost use Rattle.std.specs.Prelude.{◌≡◌, ◌+◌, ◌≤◌, length};
 ghost use Rattle.session.specs.Names.{most_objects, object_places};
 ghost use Rattle.session.specs.Table.{read, words};
 ghost use Rattle.session.specs.Lent.{was};
@@ -11,15 +10,13 @@ ghost use Rattle.session.specs.declared.Field.TheVariants.{Objects};
 ghost use Rattle.rules.specs.Formula.{Formula.never};
 ghost use Rattle.rules.specs.Descendants.{busy};
 ghost use Rattle.laws.specs.Under.{Falls};
-ghost use Rattle.ancestors.specs.Above.{ClosedBut, Above, Shows};
-ghost use Rattle.ancestors.specs.Live.{Stated};
+ghost use Rattle.ancestors.specs.Above.{ClosedBut, Above, Shows, busy_below};
 
-use live::last_live;
 use session::{Field, names};
 
 // Marks the creator of h, its creator and so on, up to a task that is marked already: all above it are then marked too.
 // Internal: callers have shown that creators are lower, and that marks are closed but for h itself.
-fn mark_above(s: &[u64], marks: &mut [u8], h: u64)
+fn mark_above(s: &[u64], marks: &mut [u64], h: u64)
     requires { (words ≤ length s.now) × (read s.now Objects 0 ≤ most_objects) × Falls (read s.now)
         × (h ≤ read s.now Objects 0)
         × (length marks.old ≡ object_places) × ClosedBut (read s.now) marks.old h }
@@ -36,28 +33,38 @@ fn mark_above(s: &[u64], marks: &mut [u8], h: u64)
     mark_above(s, marks, c);
 }
 
-// Marks every task that has a live descendant. Internal: callers have shown that creators are lower and that tasks have a state, and
-// lend marks that are all 0.
-pub fn mark_all(s: &[u64], marks: &mut [u8])
-    requires { (words ≤ length s.now) × (read s.now Objects 0 ≤ most_objects) × Falls (read s.now) × Stated (read s.now)
+// Marks the ancestors of h if it is live. Internal, as `mark_above` is.
+fn mark_live(s: &[u64], marks: &mut [u64], h: u64)
+    requires { (words ≤ length s.now) × (read s.now Objects 0 ≤ most_objects) × Falls (read s.now)
+        × (h ≤ read s.now Objects 0)
+        × (length marks.old ≡ object_places) × Shows marks.old (busy_below (read s.now) h) }
+    ensures { Shows marks.new (busy_below (was s.now) (h + 1)) }
+{
+    if reading::is_live(s, h) {
+        mark_above(s, marks, h);
+    }
+}
+
+// Marks every task that has a live descendant. Internal: callers lend marks that are all 0.
+pub fn mark_all(s: &[u64], marks: &mut [u64])
+    requires { (words ≤ length s.now) × (read s.now Objects 0 ≤ most_objects) × Falls (read s.now)
         × (length marks.old ≡ object_places) × Shows marks.old (λ a. never) }
     ensures { Shows marks.new (busy (was s.now)) }
 {
     let n = session::get(s, Field::Objects, 0);
-    let mut h = last_live(s, n);
-    while 0 < h {
-        mark_above(s, marks, h);
-        h = last_live(s, h - 1);
+    let mut h: u64 = 0;
+    while h <= n {
+        mark_live(s, marks, h);
+        h += 1;
     }
 }
 
-// For each handle 1 if some descendant of it is a live task, else 0. Internal: callers have shown that creators are lower and that
-// tasks have a state.
-pub fn busy_marks(s: &[u64]) -> [u8; names::OBJECT_PLACES]
-    requires { (words ≤ length s.now) × (read s.now Objects 0 ≤ most_objects) × Falls (read s.now) × Stated (read s.now) }
+// For each handle 1 if some descendant of it is a live task, else 0. Internal: callers have shown that creators are lower.
+pub fn busy_marks(s: &[u64]) -> [u64; names::OBJECT_PLACES]
+    requires { (words ≤ length s.now) × (read s.now Objects 0 ≤ most_objects) × Falls (read s.now) }
     ensures { Shows result (busy (was s.now)) }
 {
-    let mut marks: [u8; names::OBJECT_PLACES] = [0; names::OBJECT_PLACES];
+    let mut marks: [u64; names::OBJECT_PLACES] = [0; names::OBJECT_PLACES];
     mark_all(s, &mut marks);
     marks
 }

@@ -1,6 +1,6 @@
 -- Who can be done once a task has ended or was destroyed: the task itself, and those above it that are reached over tasks that
 -- are not live. Of any other the output event fired when it should have.
-use Rattle.std.specs.Prelude.{ℕ, ◌+◌, ◌-◌, ◌≤◌, ◌<◌, ◌≡◌, refl, List, ◌⊎◌, length, get_or, set, replicate}
+use Rattle.std.specs.Prelude.{ℕ, zero, suc, ◌+◌, ◌-◌, ◌≤◌, ◌<◌, ◌≡◌, refl, List, ◌⊎◌, length, get_or, set, replicate}
 use Rattle.std.proofs.Common.{sym, subst, ◌∙◌, inl, inr, arith, get_or-set_same, get_or-set_other}
 use Rattle.std.proofs.Math.Decide.{dec_lt}
 use Rattle.std.proofs.lemmas.List.{get_or-replicate, length-replicate}
@@ -17,12 +17,12 @@ use Rattle.rules.specs.Sound.{outputs}
 use Rattle.rules.specs.Effects.{finishes, let_go, bury_doomed, fire, fire_one, fire_finished, destroy_event}
 use Rattle.rules.specs.Descendants.{under, busy}
 use Rattle.laws.specs.Places.{Places, places, put_there, Places.one, Places.two}
-use Rattle.laws.specs.Under.{under-made, under_down, under-through}
+use Rattle.laws.specs.Under.{Falls, under-made, under_down, under_up}
 use Rattle.laws.specs.Conjuncts.{finishes_by_name, output_by_name, Output.fires_with}
 use Rattle.retiring.specs.TidyUnderWay.{Tidy}
 use Rattle.retiring.specs.Finish.{Marks, one_fires, fires_nothing}
 use Rattle.retiring.specs.RetiringParts.{output_destroyed, output_fired, ending}
-use Rattle.laws.specs.DestroyedClimbs.{Childless}
+use Rattle.retiring.specs.Children.{Childless}
 
 -- a is h, or stands above it by the creators given
 abbrev pub Reached : (ℕ → ℕ) → ℕ → ℕ → Type 0
@@ -77,6 +77,23 @@ creator_none s h z = go (decide (s TaskState (s TaskCreator h) ≼ running))
     go (it_does live) = creator-live s h live
     go (it_does_not n) = creator-done s h n ∙ z
 
+-- whoever stands above one who stands above d stands above d
+under-through : (s : Session) → Falls s → (k d h a : ℕ) → d ≤ s Objects 0 → Holds (under (s TaskCreator) k d h)
+    → Holds (under (s TaskCreator) h h a) → Holds (under (s TaskCreator) d d a)
+unfolding under
+under-through s falls zero d h a l x y = absurd x
+under-through s falls (suc k) d h a l x y =
+    let f = falls d l x.0 in
+    under_up s falls d a l x.0 (inr (go f (under-through s falls k (s TaskCreator d) h a) x.1))
+  where
+    c : ℕ → ℕ
+    c = s TaskCreator
+
+    go : c d < d → (c d ≤ s Objects 0 → Holds (under c k (c d) h) → Holds (under c h h a) → Holds (under c (c d) (c d) a))
+        → (c d ≡ h) ⊎ Holds (under c k (c d) h) → Holds (under c (c d) (c d) a)
+    go f r (inl e) = subst (λ (i : ℕ). Holds (under c i i a)) (sym e) y
+    go f r (inr u) = r (omega arith) u y
+
 module _ (s : Session) (x : Tidy s) (h : ℕ) (l : h ≤ s Objects 0) where
   abbrev c : ℕ → ℕ
   c = s TaskCreator
@@ -97,6 +114,13 @@ module _ (s : Session) (x : Tidy s) (h : ℕ) (l : h ≤ s Objects 0) where
       go : Dec (0 < c h) → c h ≤ s Objects 0
       go (yes p) = let f = x.frame.falls h l p in omega arith
       go (no n) = omega arith
+
+  pub done_low : done_creator s h ≤ s Objects 0
+  done_low = go (decide (s TaskState (c h) ≼ running))
+    where
+      go : Case (s TaskState (c h) ≼ running) → done_creator s h ≤ s Objects 0
+      go (it_does live) = rw (creator-live s h live) (omega arith)
+      go (it_does_not n) = rw (creator-done s h n) creator-made
 
   pub done_lower : 1 ≤ h → done_creator s h < h
   done_lower m = go (decide (s TaskState (c h) ≼ running)) (dec_lt 0 (c h))

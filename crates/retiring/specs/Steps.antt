@@ -1,12 +1,12 @@
 -- The steps climbed on the walk upwards, and what stops it.
-use Rattle.std.specs.Prelude.{ℕ, ◌+◌, ◌-◌, ◌≤◌, ◌≡◌, refl, List, ◌⊎◌}
-use Rattle.std.proofs.Common.{inl, inr, arith}
+use Rattle.std.specs.Prelude.{ℕ, ◌+◌, ◌-◌, ◌≤◌, ◌≡◌, refl, Bool, true, false, List, ◌⊎◌}
+use Rattle.std.proofs.Common.{subst, inl, inr, arith}
 use Rattle.session.specs.Table.{Session, change}
 use Rattle.session.specs.declared.Field.TheVariants.{Objects, TaskState, TaskCreator}
 use Rattle.session.specs.Names.{running}
 use Rattle.rules.specs.Formula.{Holds, choose, Formula.◌≼◌}
 use Rattle.rules.specs.FormulaLaws.{Case, decide, choose_yes, choose_no, Case.it_does, Case.it_does_not}
-use Rattle.rules.specs.Effects.{fire, fire_finished}
+use Rattle.rules.specs.Effects.{finishes, fire, fire_finished}
 use Rattle.rules.specs.Descendants.{busy, is_over, climbed}
 use Rattle.laws.specs.Climbing.{climbed-moves, climbed_stands}
 use Rattle.laws.specs.Conjuncts.{finishes_by_name}
@@ -14,6 +14,7 @@ use Rattle.retiring.specs.declared.climbing.Walk.{Walk}
 use Rattle.retiring.specs.TidyUnderWay.{Tidy}
 use Rattle.retiring.specs.Climb.{Climbed, OnlyAbove, OnlyOne, Reached, done_creator, creator-live, creator-done}
 use Rattle.retiring.specs.Climb.{creator-made, busy-above, step}
+use Rattle.retiring.specs.Finish.{fires_nothing}
 
 -- what a walk from h has come to at its end: the steps climbed are those before it and those from h
 pub record Walked (s : Session) (m : List ℕ) (before after : Walk) (h : ℕ) : Type 0 where
@@ -29,6 +30,11 @@ climbed-fired s t = refl
 abbrev pub StopsAbove : Session → ℕ → Type 0
 StopsAbove s h = 1 ≤ s TaskCreator h → Holds (is_over s (s TaskCreator h)) → ⊥
 
+-- whether the climb from h stops at its creator, or the creator is over too
+pub record StopsTold (s : Session) (h : ℕ) (r : Bool) : Type 0 where
+  pub stops : r ≡ true → StopsAbove s h
+  pub goes_on : r ≡ false → (1 ≤ s TaskCreator h) × Holds (is_over s (s TaskCreator h))
+
 module _ (s : Session) (x : Tidy s) (h : ℕ) (l : h ≤ s Objects 0) where
   abbrev c : ℕ → ℕ
   c = s TaskCreator
@@ -41,13 +47,17 @@ module _ (s : Session) (x : Tidy s) (h : ℕ) (l : h ≤ s Objects 0) where
       go (it_does live) = absurd (n (creator-live s h live))
       go (it_does_not d) = (creator-done s h d, d)
 
-  -- a live creator, or none, stops the climb
+  -- a live creator, or none, stops the climb ..
   pub live_stops : done_creator s h ≡ 0 → StopsAbove s h
   live_stops z m over = go (decide (s TaskState (c h) ≼ running))
     where
       go : Case (s TaskState (c h) ≼ running) → ⊥
       go (it_does live) = over.0 (x.frame.makers h l m, live)
       go (it_does_not d) = let e = creator-done s h d in omega arith
+
+  -- .. and so does a busy one
+  pub busy_stops : Holds (busy s (done_creator s h)) → (done_creator s h ≡ 0 → ⊥) → StopsAbove s h
+  busy_stops b n m over = over.1 (rw (creator-over n).0 at b)
 
   -- the steps from h, which is not live
   module _ (dead : s TaskState h ≤ running → ⊥) where
@@ -85,3 +95,18 @@ module _ (s : Session) (x : Tidy s) (h : ℕ) (l : h ≤ s Objects 0) where
           let m = r.0 in
           let d = creator-over (λ z. omega arith) in
           absurd (up (rw d.0 at r) d.1 (decide (busy s (c h))))
+
+  -- and where h is busy none can
+  pub busy_none : OnlyAbove s h → Holds (busy s h) → fire_finished s ≡ s
+  busy_none o b = fires_nothing s (λ e f. (finishes_by_name s e f).idle (busy-above s x h l (e - 1) b (o.reached e f)))
+
+  -- where the event of h does not finish, only those above its creator, which is over, can
+  pub only_higher : OnlyAbove s h → Holds (is_over s (c h)) → 1 ≤ c h → (Holds (finishes s (h + 1)) → ⊥) → OnlyAbove s (c h)
+  only_higher o over m n = record { known = creator-made s x h l; reached = λ e f. go e f (step s x h l e f (o.reached e f) (λ q. q)) }
+    where
+      dead : s TaskState (c h) ≤ running → ⊥
+      dead live = over.0 (x.frame.makers h l m, live)
+
+      go : (e : ℕ) → Holds (finishes s e) → (e ≡ h + 1) ⊎ Reached c (done_creator s h) (e - 1) → Reached c (c h) (e - 1)
+      go e f (inl q) = absurd (n (subst (λ (k : ℕ). Holds (finishes s k)) q f))
+      go e f (inr r) = rw (creator-done s h dead) at r

@@ -8,7 +8,7 @@ use Rattle.std.proofs.Math.Decide.{dec_lt}
 use Rattle.session.specs.Table.{Session, put, change, read}
 use Rattle.session.specs.declared.Field.TheVariants.{Objects, Links, Kind, TaskState, TaskCreator, EventState, EventPayload}
 use Rattle.session.specs.declared.Field.TheVariants.{LinkSource, LinkState}
-use Rattle.session.specs.Names.{task, event, event_open, fired, destroyed_unfired, destroyed_fired, link_open, ready, cut}
+use Rattle.session.specs.Names.{task, task_destroyed, event, event_open, fired, destroyed_unfired, destroyed_fired, link_open, ready, cut}
 use Rattle.session.specs.Names.{most_objects, most_links}
 use Rattle.rules.specs.Formula.{Formula, Holds, choose, Formula.◌≐◌, Formula.◌and◌}
 use Rattle.rules.specs.FormulaLaws.{Case, decide, choose_yes, choose_no, Case.it_does, Case.it_does_not}
@@ -18,9 +18,8 @@ use Rattle.laws.specs.Places.{Places, places, put-here, put_there, Places.one, P
 use Rattle.laws.specs.Rows.Name.{counts, kinds, task_parts, event_parts, roots, creators, links, free_links}
 use Rattle.laws.specs.Keeping.{Sound}
 use Rattle.laws.specs.ByName.{sound_by_name}
-use Rattle.laws.specs.Conjuncts.{roots_by_name, event_by_name, task_by_name, Root.main_creator, Event.paid, Task.state_low}
+use Rattle.laws.specs.Conjuncts.{roots_by_name, event_by_name, task_by_name, Root.main_creator, Event.paid, Task.state_high}
 use Rattle.laws.specs.Under.{creators_fall}
-use Rattle.ancestors.specs.Live.{Stated}
 use Rattle.effects.specs.OpenLinks.{NoMoreLinks}
 use Rattle.effects.specs.Ready.{no_more_links}
 use Rattle.holding.specs.SoundHolds.{unmade}
@@ -43,11 +42,15 @@ FrameOf s = Frame (s Objects 0) (s Links 0) (s Kind) (s TaskCreator) (s LinkSour
 abbrev pub OpenEmpty : Session → Type 0
 OpenEmpty s = (e : ℕ) → s Kind e ≡ event → s EventState e ≡ event_open → s EventPayload e ≡ 0
 
+-- every state of a task is destroyed or an earlier one
+abbrev pub StatesLow : Session → Type 0
+StatesLow s = (h : ℕ) → h ≤ s Objects 0 → s TaskState h ≤ task_destroyed
+
 pub record Tidy (s : Session) : Type 0 where
   pub frame : FrameOf s
   pub no_more : NoMoreLinks s
   pub open_empty : OpenEmpty s
-  pub states : Stated s
+  pub states : StatesLow s
 
 module _ (ws : List ℕ) (good : Holds (sound (read ws))) where
   abbrev s : Session
@@ -83,8 +86,12 @@ module _ (ws : List ℕ) (good : Holds (sound (read ws))) where
       go (inl x) = x.0
       go (inr (other, (no_state, (no_creator, rest)))) = absurd (omega arith)
 
-  stated : Stated s
-  stated h l k = task_by_name h s k (r task_parts h (omega (arith, (r counts).1.0))) state_low
+  states_low : StatesLow s
+  states_low h l = go (r task_parts h (omega (arith, (r counts).1.0)))
+    where
+      go : Holds (task_part s h) → s TaskState h ≤ task_destroyed
+      go (inl x) = task_by_name h s x.0 (inl x) state_high
+      go (inr (other, (no_state, rest))) = omega arith
 
   open_empty : OpenEmpty s
   open_empty e k o = go (dec_lt (s Objects 0) e)
@@ -113,18 +120,18 @@ module _ (ws : List ℕ) (good : Holds (sound (read ws))) where
         };
         no_more = no_more_links ws good;
         open_empty = open_empty;
-        states = stated;
+        states = states_low;
       }
 
 -- what an operation leaves tidy
 module _ (s : Session) (x : Tidy s) where
-  pub tidy_state : (t v : ℕ) → 1 ≤ v → Tidy (put s TaskState t v)
+  pub tidy_state : (t v : ℕ) → v ≤ task_destroyed → Tidy (put s TaskState t v)
   unfolding put
-  tidy_state t v some = record { frame = x.frame; no_more = x.no_more; open_empty = x.open_empty; states = λ h l k. after h l k (places t h) }
+  tidy_state t v low = record { frame = x.frame; no_more = x.no_more; open_empty = x.open_empty; states = λ h l. after h l (places t h) }
     where
-      after : (h : ℕ) → h ≤ s Objects 0 → s Kind h ≡ task → Places t h → 1 ≤ put s TaskState t v TaskState h
-      after h l k (one q) = rw (put-here s TaskState t h v q) some
-      after h l k (two n) = rw (put_there s TaskState t h v n) (x.states h l k)
+      after : (h : ℕ) → h ≤ s Objects 0 → Places t h → put s TaskState t v TaskState h ≤ task_destroyed
+      after h l (one q) = rw (put-here s TaskState t h v q) low
+      after h l (two n) = rw (put_there s TaskState t h v n) (x.states h l)
 
   pub tidy_let_go : (t : ℕ) (which : ℕ → Formula) → Tidy (let_go s t which)
   unfolding let_go bury_doomed change

@@ -10,8 +10,9 @@ ghost use Rattle.ancestors.specs.Above.{Shows};
 ghost use Rattle.retiring.specs.TidyUnderWay.{Tidy};
 ghost use Rattle.retiring.specs.Finish.{waits};
 ghost use Rattle.retiring.specs.Climb.{Climbed, done_creator};
-ghost use Rattle.retiring.specs.Steps.{Walked};
+ghost use Rattle.retiring.specs.Steps.{StopsTold, Walked};
 
+use crate::children::is_busy_above;
 use session::{Field, names};
 
 // How far a walk has come: the steps climbed, and the event that it found to fire, 0 where there is none and a number past every
@@ -51,7 +52,7 @@ pub fn task_waits(s: &[u64], h: u64) -> bool
 }
 
 // The creator of task h, or 0 if it is live: no task above a live one can be done. Internal, as `task_waits` is.
-pub fn done_creator(s: &[u64], h: u64) -> u64
+fn done_creator(s: &[u64], h: u64) -> u64
     requires { (words ≤ length s.now) × Tidy (read s.now) × (h ≤ read s.now Objects 0) }
     ensures { result ≡ done_creator (was s.now) h }
 {
@@ -60,6 +61,19 @@ pub fn done_creator(s: &[u64], h: u64) -> u64
         return 0;
     }
     c
+}
+
+// Whether a climb from task h stops at its creator: this is live or has a live descendant. So too where h is main, which has none.
+// Internal, as `task_waits` is.
+pub fn stops_above(s: &[u64], h: u64) -> bool
+    requires { (words ≤ length s.now) × Tidy (read s.now) × (h ≤ read s.now Objects 0) }
+    ensures { StopsTold (was s.now) h result }
+{
+    let c = done_creator(s, h);
+    if c == 0 {
+        return true;
+    }
+    is_busy_above(s, c)
 }
 
 // The first step of a climb from task h: none from main, which has no creator. Internal, as `task_waits` is.
@@ -76,7 +90,7 @@ pub fn first_step(s: &[u64], h: u64) -> u64
 
 // Marks the event of task h, which is over, if it waits. Before and after, `found` is 0 where no event is marked, the event where it
 // is one, and a number past every handle where there are more. Internal: callers have shown the marks and how far the climb has come.
-fn mark_task(s: &[u64], fires: &mut [u8], found: u64, h: u64) -> u64
+fn mark_task(s: &[u64], fires: &mut [u64], found: u64, h: u64) -> u64
     requires { (words ≤ length s.now) × Tidy (read s.now) × (1 ≤ h) × (Holds (busy (read s.now) h) → ⊥)
         × (length fires.old ≡ object_places) × Climbed (read s.now) fires.old found h }
     ensures { Climbed (was s.now) fires.new result (done_creator (was s.now) h) }
@@ -93,7 +107,7 @@ fn mark_task(s: &[u64], fires: &mut [u8], found: u64, h: u64) -> u64
 
 // One walk upwards from task h, which is not live, gives both the steps and the events that fire: as long as the task stood on has
 // no live descendant its event is marked if it waits, and the walk goes on from its creator. Internal, as `mark_task` is.
-pub fn climb(s: &[u64], live: &[u8], fires: &mut [u8], walk: Walk, h: u64) -> Walk
+pub fn climb(s: &[u64], live: &[u64], fires: &mut [u64], walk: Walk, h: u64) -> Walk
     requires { (words ≤ length s.now) × Tidy (read s.now) × (1 ≤ h) × (read s.now TaskState h ≤ running → ⊥)
         × (length live.now ≡ object_places) × Shows live.now (busy (read s.now)) × (length fires.old ≡ object_places)
         × Climbed (read s.now) fires.old walk.found h × (walk.steps + h ≤ most_objects) }

@@ -15,10 +15,10 @@ ghost use Rattle.effects.specs.Made.{Made};
 ghost use Rattle.effects.specs.OpenLinks.{NoMoreLinks};
 ghost use Rattle.retiring.specs.Cutting.{retired, links_cut};
 ghost use Rattle.laws.specs.Met.{met};
-ghost use Rattle.laws.specs.DestroyedClimbs.{Childless};
 ghost use Rattle.reading.specs.Holds.{Active};
 ghost use Rattle.holding.specs.Letting.{Doomed};
 ghost use Rattle.retiring.specs.TidyUnderWay.{Tidy};
+ghost use Rattle.retiring.specs.Children.{Childless};
 ghost use Rattle.retiring.specs.RetiringParts.{output_destroyed, OutputLow, fate};
 
 use crate::finishing;
@@ -72,7 +72,7 @@ fn destroy_task(s: &mut [u64], t: u64) -> u64
 {
     session::set(s, Field::TaskState, t as usize, names::TASK_DESTROYED);
     destroy_output(s, t);
-    finishing::fire_over(s, t)
+    finishing::fire_over(s, t, finishing::LEVELS)
 }
 
 // The state of block b once it is destroyed: doomed while somebody holds it. Internal, as `is_held` is.

@@ -4,7 +4,7 @@ ghost use Rattle.session.specs.Names.{most_objects, object_places, link_places, 
 ghost use Rattle.session.specs.Table.{read, put, words};
 ghost use Rattle.session.specs.Lent.{was, Becomes};
 ghost use Rattle.session.specs.declared.Field.TheVariants.{Objects, TaskState, EventState, LinkSource, LinkState};
-ghost use Rattle.rules.specs.Formula.{Holds, test};
+ghost use Rattle.rules.specs.Formula.{Holds};
 ghost use Rattle.rules.specs.Effects.{fire_finished};
 ghost use Rattle.rules.specs.Descendants.{busy, climbed};
 ghost use Rattle.effects.specs.Made.{Made};
@@ -12,13 +12,16 @@ ghost use Rattle.holding.specs.SweepRows.{row};
 ghost use Rattle.retiring.specs.TidyUnderWay.{Tidy};
 ghost use Rattle.retiring.specs.Finish.{fire_row, states_fired, ready_row, links_ready, Within};
 ghost use Rattle.retiring.specs.Climb.{OnlyAbove, OnlyOne};
-ghost use Rattle.retiring.specs.Children.{has_child};
 
-use crate::climbing::{Walk, climb, done_creator, first_step, task_waits};
+use crate::children::is_busy;
+use crate::climbing::{Walk, climb, first_step, stops_above, task_waits};
 use session::{Field, names};
 
+// How many levels up a climb is looked at without marks: each costs a pass over the objects, and marks cost two rows of them.
+pub const LEVELS: u64 = 2;
+
 // Event e is fired if it is marked. Internal: callers have shown the lengths and the handle.
-fn fire_marked(s: &mut [u64], fires: &[u8], e: u64)
+fn fire_marked(s: &mut [u64], fires: &[u64], e: u64)
     requires { (words ≤ length s.old) × (e ≤ most_objects) × (length fires.now ≡ object_places) }
     ensures { Becomes s.old s.new (put (was s.old) EventState e (fire_row fires.now e (row (was s.old) e))) }
 {
@@ -28,7 +31,7 @@ fn fire_marked(s: &mut [u64], fires: &[u8], e: u64)
 }
 
 // Every marked event is fired. Internal: callers have shown the lengths and that no mark is past the count of objects.
-fn fire_all_marked(s: &mut [u64], fires: &[u8])
+fn fire_all_marked(s: &mut [u64], fires: &[u64])
     requires { (words ≤ length s.old) × (read s.old Objects 0 ≤ most_objects) × (length fires.now ≡ object_places)
         × Within fires.now (read s.old Objects 0) }
     ensures { Becomes s.old s.new (states_fired (was s.old) fires.now) }
@@ -42,7 +45,7 @@ fn fire_all_marked(s: &mut [u64], fires: &[u8])
 }
 
 // Link l is ready if it is open and its event is marked. Internal: callers have shown the lengths, the link and its source.
-fn ready_marked(s: &mut [u64], fires: &[u8], l: u64)
+fn ready_marked(s: &mut [u64], fires: &[u64], l: u64)
     requires { (words ≤ length s.old) × (l < link_places) × (length fires.now ≡ object_places)
         × (read s.old LinkSource l ≤ most_objects) }
     ensures { Becomes s.old s.new (put (was s.old) LinkState l (ready_row fires.now l (row (was s.old) l))) }
@@ -56,7 +59,7 @@ fn ready_marked(s: &mut [u64], fires: &[u8], l: u64)
 }
 
 // Every open link of a marked event is ready. Internal: callers have shown the lengths and a tidy session.
-fn ready_all_marked(s: &mut [u64], fires: &[u8])
+fn ready_all_marked(s: &mut [u64], fires: &[u64])
     requires { (words ≤ length s.old) × Tidy (read s.old) × (length fires.now ≡ object_places) }
     ensures { Becomes s.old s.new (links_ready (was s.old) fires.now) }
 {
@@ -69,7 +72,7 @@ fn ready_all_marked(s: &mut [u64], fires: &[u8])
 }
 
 // Fires the marked events. Internal: callers have shown the lengths, a tidy session and that no mark is past the count.
-fn fire_by_marks(s: &mut [u64], fires: &[u8])
+fn fire_by_marks(s: &mut [u64], fires: &[u64])
     requires { (words ≤ length s.old) × Tidy (read s.old) × (length fires.now ≡ object_places)
         × Within fires.now (read s.old Objects 0) }
     ensures { Becomes s.old s.new (links_ready (states_fired (was s.old) fires.now) fires.now) }
@@ -85,9 +88,9 @@ fn fire_above(s: &mut [u64], t: u64) -> u64
         × OnlyAbove (read s.old) t }
     ensures { Made s.old s.new (fire_finished (was s.old)) (climbed (was s.old) t) result }
 {
-    let mut live: [u8; names::OBJECT_PLACES] = [0; names::OBJECT_PLACES];
+    let mut live: [u64; names::OBJECT_PLACES] = [0; names::OBJECT_PLACES];
     ancestors::mark_all(s, &mut live);
-    let mut fires: [u8; names::OBJECT_PLACES] = [0; names::OBJECT_PLACES];
+    let mut fires: [u64; names::OBJECT_PLACES] = [0; names::OBJECT_PLACES];
     let walk = climb(s, &live, &mut fires, Walk { steps: 0, found: 0 }, t);
     let found = walk.found;
     if found == 0 {
@@ -113,39 +116,37 @@ fn fire_own(s: &mut [u64], t: u64)
     }
 }
 
-// As `fire_finished`, where t has no live descendant: most often its creator is live, and the climb ends there.
-pub fn fire_over(s: &mut [u64], t: u64) -> u64
+// As `fire_finished`, where t has no live descendant either. Most often the climb stops at its creator; where it goes on, and nothing
+// fires here, it is looked at from the creator in the same way, so many levels up, and then by marks.
+pub fn fire_over(s: &mut [u64], t: u64, levels: u64) -> u64
     requires { (words ≤ length s.old) × Tidy (read s.old) × (1 ≤ t) × (read s.old TaskState t ≤ running → ⊥)
         × OnlyAbove (read s.old) t × (Holds (busy (read s.old) t) → ⊥) }
     ensures { Made s.old s.new (fire_finished (was s.old)) (climbed (was s.old) t) result }
 {
-    if done_creator(s, t) == 0 {
+    if stops_above(s, t) {
         let steps = first_step(s, t);
         fire_own(s, t);
         return steps;
     }
-    fire_above(s, t)
+    if levels == 0 {
+        return fire_above(s, t);
+    }
+    if task_waits(s, t) {
+        return fire_above(s, t);
+    }
+    let c = session::get(s, Field::TaskCreator, t as usize);
+    fire_over(s, c, levels - 1) + 1
 }
 
-// Whether task h made one, whose handle is then higher. Internal: callers have shown the length, a tidy session and the handle.
-fn has_child(s: &[u64], h: u64) -> bool
-    requires { (words ≤ length s.now) × Tidy (read s.now) × (1 ≤ h) × (h ≤ read s.now Objects 0) }
-    ensures { result ≡ test (has_child (was s.now) h) }
-{
-    let n = session::get(s, Field::Objects, 0) as usize;
-    reading::find(s, Field::TaskCreator, h, h as usize + 1, n + 1) <= n
-}
-
-// Fires every output event that finishes, once task t has ended, and answers the steps climbed. Most tasks made none, which is found
-// out sooner. Internal: callers have shown the length, a tidy session, that t is not live, and that no event can finish but those of t
-// and the tasks above it.
+// Fires every output event that finishes, once task t has ended, and answers the steps climbed. Internal: callers have shown the
+// length, a tidy session, that t is not live, and that no event can finish but those of t and the tasks above it.
 pub fn fire_finished(s: &mut [u64], t: u64) -> u64
     requires { (words ≤ length s.old) × Tidy (read s.old) × (1 ≤ t) × (read s.old TaskState t ≤ running → ⊥)
         × OnlyAbove (read s.old) t }
     ensures { Made s.old s.new (fire_finished (was s.old)) (climbed (was s.old) t) result }
 {
-    if has_child(s, t) {
-        return fire_above(s, t);
+    if is_busy(s, t) {
+        return 0;
     }
-    fire_over(s, t)
+    fire_over(s, t, LEVELS)
 }

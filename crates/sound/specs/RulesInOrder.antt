@@ -13,10 +13,9 @@ use Rattle.rules.specs.FormulaLaws.{test-same}
 use Rattle.laws.specs.SlotPlaces.{place_split, place_low, place_owner}
 use Rattle.laws.specs.Parts.{task_parts_of}
 use Rattle.laws.specs.Under.{Falls, creators_fall}
-use Rattle.ancestors.specs.Live.{Stated}
 use Rattle.laws.specs.ByName.{Rules, rules_of, sound-from, ◌&◌}
 use Rattle.laws.specs.SlotModes.{held_mode}
-use Rattle.laws.specs.Conjuncts.{claimed_by_name, unclaimed_by_name, task_by_name, Claimed.payload, Task.state_low}
+use Rattle.laws.specs.Conjuncts.{claimed_by_name, unclaimed_by_name, Claimed.payload}
 
 -- the answer on lent memory: memory that is too short is not sound
 unfoldable pub sound_memory : List ℕ → Bool
@@ -78,10 +77,6 @@ module _ (s : Session) where
   -- what the rules about objects by themselves say of creators
   pub parts_fall : s Objects 0 ≤ most_objects → Holds parts → Falls s
   parts_fall few (o, (r, (m, u))) = creators_fall s few (task_parts_of s o u) r m
-
-  -- and of the states of tasks
-  pub parts_stated : s Objects 0 ≤ most_objects → Holds parts → Stated s
-  parts_stated few (o, (r, (m, u))) h l k = task_by_name h s k (task_parts_of s o u h (omega arith)) state_low
 
   -- what a slot that is held is
   pub record IsHeld (i : ℕ) : Type 0 where

@@ -99,7 +99,7 @@ pub fn are_states(s: &[u64], n: u64) -> bool
 }
 
 // Whether some descendant of a task is live, by the marks.
-fn is_busy(s: &[u64], marks: &[u8; names::OBJECT_PLACES], t: u64) -> bool
+fn is_busy(s: &[u64], marks: &[u64; names::OBJECT_PLACES], t: u64) -> bool
     requires { (words ≤ length s.now) × (t ≤ most_objects) × Shows marks.now (busy (read s.now)) }
     ensures { result ≡ test (busy (was s.now) t) }
 {
@@ -107,7 +107,7 @@ fn is_busy(s: &[u64], marks: &[u8; names::OBJECT_PLACES], t: u64) -> bool
 }
 
 // The output event of task t is fired and destroyed as the task's state and its descendants want.
-fn does_output_agree(s: &[u64], marks: &[u8; names::OBJECT_PLACES], t: u64) -> bool
+fn does_output_agree(s: &[u64], marks: &[u64; names::OBJECT_PLACES], t: u64) -> bool
     requires { (words ≤ length s.now) × (t ≤ most_objects) × Shows marks.now (busy (read s.now)) }
     ensures { result ≡ test (output_state (was s.now) t) }
 {
@@ -123,7 +123,7 @@ fn does_output_agree(s: &[u64], marks: &[u8; names::OBJECT_PLACES], t: u64) -> b
         & ((!cut | gone) & (!gone | cut) & !(event == names::DESTROYED_FIRED))
 }
 
-fn is_output_of(s: &[u64], marks: &[u8; names::OBJECT_PLACES], t: u64) -> bool
+fn is_output_of(s: &[u64], marks: &[u64; names::OBJECT_PLACES], t: u64) -> bool
     requires { (words ≤ length s.now) × (t ≤ most_objects) × Shows marks.now (busy (read s.now)) }
     ensures { result ≡ test (output_of (was s.now) t) }
 {
@@ -132,7 +132,7 @@ fn is_output_of(s: &[u64], marks: &[u8; names::OBJECT_PLACES], t: u64) -> bool
     is_made(s, t + 1) & ((of_object(s, Field::Kind, t + 1) == names::EVENT) & agrees)
 }
 
-fn has_output(s: &[u64], marks: &[u8; names::OBJECT_PLACES], h: u64) -> bool
+fn has_output(s: &[u64], marks: &[u64; names::OBJECT_PLACES], h: u64) -> bool
     requires { (words ≤ length s.now) × (h ≤ most_objects) × Shows marks.now (busy (read s.now)) }
     ensures { result ≡ test (output_at (was s.now) h) }
 {
@@ -146,7 +146,7 @@ fn has_output(s: &[u64], marks: &[u8; names::OBJECT_PLACES], h: u64) -> bool
 }
 
 // An output event follows its task, and agrees with it.
-pub fn are_outputs(s: &[u64], marks: &[u8; names::OBJECT_PLACES], n: u64) -> bool
+pub fn are_outputs(s: &[u64], marks: &[u64; names::OBJECT_PLACES], n: u64) -> bool
     requires { (words ≤ length s.now) × (n ≤ most_objects) × Shows marks.now (busy (read s.now)) }
     ensures { result ≡ test (each (n + 1) (output_at (was s.now))) }
 {

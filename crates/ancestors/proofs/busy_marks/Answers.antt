@@ -6,4 +6,4 @@ use Rattle.ancestors.proofs.busy_marks.Goals as goal
 pub mark_all-requires : goal.mark_all-requires
 mark_all-requires c =
     let p = c.requires in
-    (p.0, p.1, p.2, p.3, refl, shows_zeros)
+    (p.0, p.1, p.2, refl, shows_zeros)

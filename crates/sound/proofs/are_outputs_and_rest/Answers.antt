@@ -1,5 +1,5 @@
 -- `sound::are_outputs_and_rest` meets its contract: the outputs fail, or `are_links_and_rest` decides (`test_and`).
--- The marks of busy tasks may be made, since every creator is below its task (`parts_fall`) and every task has a state (`parts_stated`).
+-- The marks of busy tasks may be made, since every creator is below its task (`parts_fall`).
 use mathlib.Core.Path.{sym, ◌∙◌}
 use native.Mathlib.Omega.{arith}
 use Prim.Native.Nat.{◌≤◌}
@@ -8,7 +8,7 @@ use Rattle.session.specs.Names.{most_objects}
 use Rattle.session.specs.declared.Field.TheVariants.{Objects}
 use Rattle.rules.specs.Sound.{outputs}
 use Rattle.rules.specs.FormulaLaws.{passed, failed, fails, test_and}
-use Rattle.sound.specs.RulesInOrder.{from_links, from_outputs, parts_fall, parts_stated}
+use Rattle.sound.specs.RulesInOrder.{from_links, from_outputs, parts_fall}
 use Rattle.sound.proofs.are_outputs_and_rest.Goals as goal
 
 pub busy_marks-marks-requires : goal.busy_marks-marks-requires
@@ -17,7 +17,7 @@ busy_marks-marks-requires c =
     let q = p.1 in
     let s = read c.args.s.now in
     let few : s Objects 0 ≤ most_objects = omega (arith, q.objects, q.few_objects) in
-    (p.0, few, parts_fall s few p.2.it, parts_stated s few p.2.it)
+    (p.0, few, parts_fall s few p.2.it)
 
 pub returns-then-are_outputs : goal.returns-then-are_outputs
 returns-then-are_outputs c =

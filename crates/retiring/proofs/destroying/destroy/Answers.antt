@@ -9,7 +9,7 @@ use Rattle.session.specs.declared.Field.TheVariants.{Kind}
 use Rattle.holding.specs.SoundHolds.{doomed-held, active}
 use Rattle.retiring.specs.RetiringParts.{retirable, destroys_template, destroys_task, destroys_event, destroys_block}
 use Rattle.retiring.specs.RetiringParts.{task_climbs, other_climbs}
-use Rattle.laws.specs.DestroyedClimbs.{unstarted_childless}
+use Rattle.retiring.specs.Children.{unstarted_childless}
 use Rattle.retiring.proofs.destroying.destroy.Goals as goal
 
 pub get-kind-requires : goal.get-kind-requires

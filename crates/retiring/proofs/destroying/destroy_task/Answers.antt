@@ -13,7 +13,7 @@ use Rattle.retiring.specs.TidyUnderWay.{tidy_state}
 use Rattle.retiring.specs.RetiringParts.{output_destroyed, tidy_output_destroyed, low_state, destroy_task-parts}
 use Rattle.retiring.specs.RetiringParts.{destroyed_over}
 use Rattle.retiring.specs.Climb.{only_above, own-state, own_destroyed, childless_own}
-use Rattle.laws.specs.DestroyedClimbs.{childless_idle}
+use Rattle.retiring.specs.Children.{childless_idle}
 use Rattle.retiring.specs.Steps.{climbed-fired}
 use Rattle.retiring.proofs.destroying.destroy_task.Goals as goal
 
@@ -47,7 +47,7 @@ fire_over-requires c =
       rw (← w.reading) at
           (only_above s q a.t p.2 p.5 own p.4),
       rw (← w.reading) at
-          (childless_idle q tidy.frame.falls a.t (childless_own s q a.t own p.6)),
+          (childless_idle q tidy a.t (childless_own s q a.t own p.6)),
     )
 
 pub returns : goal.returns

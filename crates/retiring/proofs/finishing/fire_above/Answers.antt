@@ -12,7 +12,7 @@ use Rattle.retiring.proofs.finishing.fire_above.Goals as goal
 pub mark_all-requires : goal.mark_all-requires
 mark_all-requires c =
     let p = c.requires in
-    (p.0, p.1.frame.few, p.1.frame.falls, p.1.states, refl, shows_zeros)
+    (p.0, p.1.frame.few, p.1.frame.falls, refl, shows_zeros)
 
 pub climb-walk-requires : goal.climb-walk-requires
 climb-walk-requires c =

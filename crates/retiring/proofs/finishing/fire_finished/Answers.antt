@@ -1,15 +1,24 @@
--- `retiring::finishing::fire_finished` meets its contract: who made no task has no descendant (`childless_idle`).
+-- `retiring::finishing::fire_finished` meets its contract: with a live descendant nothing finishes (`busy_none`) and there is no step
+-- (`busy_steps`); else `fire_over` does both.
 use mathlib.Core.Path.{sym, ◌∙◌}
 use Rattle.session.specs.Table.{read}
-use Rattle.rules.specs.FormulaLaws.{failed}
-use Rattle.laws.specs.DestroyedClimbs.{childless_idle}
-use Rattle.retiring.specs.Children.{no_child}
+use Rattle.session.specs.TableLaws.{wrote_none}
+use Rattle.rules.specs.FormulaLaws.{passed, failed}
+use Rattle.retiring.specs.Steps.{busy_none, busy_steps}
 use Rattle.retiring.proofs.finishing.fire_finished.Goals as goal
+
+pub returns-then-is_busy : goal.returns-then-is_busy
+returns-then-is_busy c =
+    let p = c.requires in
+    let s = read c.args.s.now in
+    let t = c.args.t in
+    let b = passed _ (sym c.is_busy.ensures ∙ c.if-is_busy.true) in
+    record {
+      wrote = rw (busy_none s p.1 t p.4.known p.4 b) (wrote_none _);
+      answer = sym (busy_steps s p.1 t p.4.known p.3 b);
+    }
 
 pub fire_over-requires : goal.fire_over-requires
 fire_over-requires c =
     let p = c.requires in
-    let s = read c.args.s.now in
-    let t = c.args.t in
-    let none = no_child s t (failed _ (sym c.has_child.ensures ∙ c.if-has_child.false)) in
-    (p.0, p.1, p.2, p.3, p.4, childless_idle s p.1.frame.falls t none)
+    (p.0, p.1, p.2, p.3, p.4, failed _ (sym c.is_busy.ensures ∙ c.if-is_busy.false))
