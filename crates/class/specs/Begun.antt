@@ -11,8 +11,10 @@ use Rattle.sheet_counts.specs.declared.Tally.{Tally}
 use Rattle.sheet_counts.specs.Answers.{no_counts}
 use Rattle.class_rules.specs.Report.{Entry, Class, stopped, followed, met, fits, sheet_at, entries_at, class_of, head, entry_lines}
 use Rattle.class_rules.specs.Report.{last_line, report}
-use Rattle.class_rules.specs.OnePass.{learner_of, printed, kept, one_pass, kept_learner, one_pass_lem}
-use Rattle.class_rules.specs.Totals.{raised_by, raised_more, lines_more, sums_totals}
+use Rattle.class_rules.specs.OnePass.{learner_of, printed, kept, one_pass, kept_learner}
+use Rattle.class_rules.specs.Totals.{raised_by, raised_more, lines_more}
+use Rattle.class_rules.proofs.OnePass.{one_pass_lem}
+use Rattle.class_rules.proofs.Totals.{sums_totals}
 use Rattle.class.specs.StillPrinted.{end_text, sheet_text, length_text, turn_text, learner_text, entries_text, count_text, report_from}
 use Rattle.class.specs.Steps.{begun}
 

@@ -2,5 +2,4 @@ pub mod Report
 pub mod Entries
 pub mod OnePass
 pub mod Totals
-pub mod After
 pub mod Edges

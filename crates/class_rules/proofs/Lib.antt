@@ -1,0 +1,4 @@
+pub mod Entries
+pub mod Totals
+pub mod OnePass
+pub mod After
