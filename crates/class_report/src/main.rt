@@ -1,13 +1,15 @@
 #![tactic(auto)]
 
 // The class report program: reports the class file on standard input, in memory for two sheets.
-ghost use Rattle.std.specs.Prelude.{◌+◌, ◌≤◌, ◌≡◌, length};
+ghost use Rattle.std.specs.Prelude.{◌+◌, ◌≤◌, ◌≡◌, length, IfOk};
 ghost use Rattle.sheet.specs.Printing.{Ready};
 ghost use Rattle.text.specs.Put.{Put};
 ghost use Rattle.class_report.specs.ProgramStepped.{step_on};
 
 use class::{Report, Stage, Step};
 use class_input::Window;
+use std::io;
+use std::io::{Read, Write};
 
 // How many bytes of lines are gathered, at most, before they are written.
 const PART: usize = 16384;
@@ -38,18 +40,19 @@ fn gather(
 }
 
 // Writes the lines if there may be no room for one more behind them, and answers how many bytes are left to write.
-fn write_full(lines: &[u8], used: usize) -> usize
+fn write_full<W: Write>(writer: &mut W, lines: &[u8], used: usize) -> io::Result<usize>
     requires { used ≤ length lines.now }
-    ensures { result + 128 ≤ 16384 }
+    ensures { IfOk result (λ left. left + 128 ≤ 16384) }
 {
     if used <= PART - class::ROOM {
-        return used;
+        return Ok(used);
     }
-    io::write_all(1, &lines[..used]);
-    0
+    writer.write_all(&lines[..used])?;
+    Ok(0)
 }
 
-fn main() {
+// Reads a class file, and writes its report. An error is that of a read or of a write.
+fn run<R: Read, W: Write>(reader: &mut R, writer: &mut W) -> io::Result<()> {
     let mut memory = [0u64; session::WORDS];
     session::write_fresh(&mut memory);
     let mut room = [0u8; class::TWO_SHEETS];
@@ -62,7 +65,7 @@ fn main() {
     let mut turns = u64::MAX;
     while 0 < turns {
         let place = class::free_half(report);
-        let handed = class_input::read_asked(report, window, &mut input, place, &mut room);
+        let handed = class_input::read_asked(reader, report, window, &mut input, place, &mut room)?;
         let step = gather(
             report,
             &room,
@@ -77,10 +80,14 @@ fn main() {
         report = step.report;
         let stage = report.stage;
         if let Stage::Nothing = stage {
-            io::write_all(1, &lines[..filled]);
-            return;
+            return writer.write_all(&lines[..filled]);
         }
-        filled = write_full(&lines, filled);
+        filled = write_full(writer, &lines, filled)?;
         turns -= 1;
     }
+    Ok(())
+}
+
+fn main(rt: HostRuntime) -> io::Result<()> {
+    run(&mut rt.stdin(), &mut rt.stdout())
 }
