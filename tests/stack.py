@@ -1,7 +1,7 @@
 #!/usr/bin/env python3
 """The stack that include/faltxigor.h tells is enough for each of its functions.
 
-Compiles tests/stack.c against the static library and runs it with so much stack, then with half of it, on which it has to
+Compiles tests/stack.c against the static library and runs it with so much stack, then with a third of it, on which it has to
 die: so that a test that goes nowhere deep would be seen. The last line is `N passed, M failed`.
 """
 import os
@@ -24,11 +24,11 @@ def main():
         program = os.path.join(folder, 'stack')
         subprocess.run(['cc'] + FLAGS + [SOURCE, LIBRARY, '-o', program], check=True)
         enough = subprocess.run([program], stdout=subprocess.PIPE, text=True)
-        little = subprocess.run([program, str(told // 2)], stdout=subprocess.DEVNULL)
+        little = subprocess.run([program, str(told // 3)], stdout=subprocess.DEVNULL)
     if enough.returncode:
         print('dies or fails with %d bytes of stack: %s' % (told, enough.stdout.strip()))
     if little.returncode >= 0:
-        print('does not die with %d bytes of stack' % (told // 2))
+        print('does not die with %d bytes of stack' % (told // 3))
     counted = re.search(r'(\d+) passed, 0 failed', enough.stdout)
     passed = int(counted.group(1)) if counted and not enough.returncode else 0
     failed = (enough.returncode != 0) + (little.returncode >= 0)
