@@ -1,16 +1,18 @@
 #!/usr/bin/env python3
-"""mains.py [PROGRAM..]: wrong programs that no contract can refuse, and that a test fails on.
+"""mains.py [PROGRAM..]: wrong programs. A contract refuses those that it can see, and a test fails on the others.
 
-The toolchain's `read` and `write` say nothing of the bytes, so that the few lines of a program which read and write are under no
-contract (docs/PROMISES.md). Here each program is tried on inputs whose output was worked out from documents 01, 02 and docs/TEXT.md
-alone: as it stands and with a harmless edit of its code the outputs must be right; with each wrong edit it must still be
-proved, so that the edit shows what proofs do not see, and an output must be wrong.
+What a program reads and writes is under the contract of a function over any reader and writer; the line that hands it the process's
+own streams is under none (docs/PROMISES.md). Here each program is tried on inputs whose output was worked out from documents 01, 02
+and docs/TEXT.md alone: as it stands and with a harmless edit of its code the outputs must be right. A wrong edit that a contract
+sees must be refused; with any other it must still be proved, so that the edit shows what proofs do not see, and an output must be
+wrong.
 
 The edits are made in copies of the tree, which begin with what was proved of it. Prints a line a try, and last `N passed, M failed`.
 """
 import concurrent.futures
 import os
 import pathlib
+import re
 import shutil
 import subprocess
 import sys
@@ -51,31 +53,35 @@ TRIES = {
     'sheet_to_text': [(bytes([1, 10, 2]), b'1\n10 2  # grant\n'), (bytes([2, 13, 2, 1]), b'2\n13 2 1  # counted\n')],
 }
 
-# a program, whether the edit is harmless, the file below crates, old text, new text
+# What an edit is: harmless, wrong but not seen by any contract, or refused by one.
+HARMLESS, UNSEEN, REFUSED_BY_PROOF = 'harmless', 'unseen', 'refused'
+
+# a program, what the edit is, the file below crates, old text, new text
 EDITS = [
-    ('ocr_sheet', True, 'ocr_sheet/src/main.rt',
-     'io::write_all(1, &lines[..used]);', 'io::write_all(0x1, &lines[..used]);'),
-    ('ocr_sheet', False, 'ocr_sheet/src/main.rt',
-     'io::write_all(1, &lines[..used]);', 'io::write_all(2, &lines[..used]);'),
-    ('ocr_sheet', False, 'ocr_sheet/src/main.rt',
+    ('ocr_sheet', HARMLESS, 'ocr_sheet/src/main.rt',
+     'run(&mut rt.stdin(), &mut rt.stdout())', 'let mut printed = rt.stdout(); run(&mut rt.stdin(), &mut printed)'),
+    ('ocr_sheet', UNSEEN, 'ocr_sheet/src/main.rt',
+     'run(&mut rt.stdin(), &mut rt.stdout())', 'run(&mut rt.stdin(), &mut rt.stderr())'),
+    ('ocr_sheet', REFUSED_BY_PROOF, 'ocr_sheet/src/main.rt',
      'let mut next = Next::At(0, 0);', 'let mut next = Next::LastLine;'),
-    ('ocr_sheet', False, 'ocr_sheet/src/main.rt',
+    ('ocr_sheet', REFUSED_BY_PROOF, 'ocr_sheet/src/main.rt',
      'const SHEET: usize = 32768;', 'const SHEET: usize = 16384;'),
-    ('text_to_sheet', True, 'text_to_sheet/src/main.rt',
-     'io::write_all(1, &out[..used]);', 'io::write_all(0x1, &out[..used]);'),
-    ('text_to_sheet', False, 'text_to_sheet/src/main.rt',
-     'io::write_all(1, &out[..used]);', 'io::write_all(2, &out[..used]);'),
-    ('sheet_to_text', False, 'sheet_to_text/src/main.rt',
-     'io::write_all(1, &out[..used]);', 'io::write_all(2, &out[..used]);'),
-    ('class_report', True, 'class_report/src/main.rt',
-     'io::write_all(1, &lines[..filled]);', 'io::write_all(0x1, &lines[..filled]);'),
-    ('class_report', False, 'class_report/src/main.rt',
-     'io::write_all(1, &lines[..filled]);', 'io::write_all(2, &lines[..filled]);'),
-    ('class_report', False, 'class_input/src/lib.rt',
-     'libc::read(0, &mut input[..most])', 'libc::read(3, &mut input[..most])'),
-    ('class_report', False, 'class_input/src/lib.rt',
-     'io::read_full(0, &mut room[from..to])', 'io::read_full(3, &mut room[from..to])'),
-    ('class_report', False, 'class_report/src/main.rt',
+    ('text_to_sheet', HARMLESS, 'text_to_sheet/src/main.rt',
+     'run(&mut rt.stdin(), &mut rt.stdout())', 'let mut printed = rt.stdout(); run(&mut rt.stdin(), &mut printed)'),
+    ('text_to_sheet', UNSEEN, 'text_to_sheet/src/main.rt',
+     'run(&mut rt.stdin(), &mut rt.stdout())', 'run(&mut rt.stdin(), &mut rt.stderr())'),
+    ('sheet_to_text', UNSEEN, 'sheet_to_text/src/main.rt',
+     'run(&mut rt.stdin(), &mut rt.stdout())', 'run(&mut rt.stdin(), &mut rt.stderr())'),
+    ('class_report', HARMLESS, 'class_report/src/main.rt',
+     'run(&mut rt.stdin(), &mut rt.stdout())', 'let mut printed = rt.stdout(); run(&mut rt.stdin(), &mut printed)'),
+    ('class_report', UNSEEN, 'class_report/src/main.rt',
+     'run(&mut rt.stdin(), &mut rt.stdout())', 'run(&mut rt.stdin(), &mut rt.stderr())'),
+    ('class_report', REFUSED_BY_PROOF, 'class_input/src/lib.rt',
+     'let got = reader.read(&mut input[..most])?;', 'let got = b"".as_slice().read(&mut input[..most])?;'),
+    ('class_report', REFUSED_BY_PROOF, 'class_input/src/lib.rt',
+     'let n = streams::read_full(reader, &mut room[from..to])?;',
+     'let n = streams::read_full(&mut b"".as_slice(), &mut room[from..to])?;'),
+    ('class_report', UNSEEN, 'class_report/src/main.rt',
      'let mut turns = u64::MAX;', 'let mut turns = 4096u64;'),
 ]
 
@@ -105,18 +111,29 @@ def is_right(folder, program):
     return all(run.stdout == wanted and run.stderr == b'' for run, wanted in runs)
 
 
-def tried(folder, program, harmless, source, old, new):
-    """Whether an edit is proved, and seen in an output exactly if it is wrong; and in words."""
+def is_refused(folder, crate):
+    """Whether a crate of the copy is not proved: it was read, and a proof of it fails."""
+    place = os.path.join(folder, 'crates', crate)
+    run = subprocess.run(['rt', 'check'], cwd=place, stdout=subprocess.PIPE, stderr=subprocess.STDOUT, text=True)
+    return run.returncode == 1 and re.search(r'^logic=not-proved', run.stdout, re.M) is not None
+
+
+def tried(folder, program, kind, source, old, new):
+    """Whether an edit does as it must: refused, or proved and seen in an output exactly if it is wrong; and in words."""
     path = pathlib.Path(folder, 'crates', source)
     text = path.read_text(encoding='utf-8')
     if text.count(old) != 1:
         return False, '`%s` stands %d times in %s' % (old, text.count(old), source)
     path.write_text(text.replace(old, new), encoding='utf-8')
+    if kind == REFUSED_BY_PROOF:
+        refused = is_refused(folder, source.split('/')[0])
+        path.write_text(text, encoding='utf-8')
+        return refused, '`%s`: %s' % (new, 'refused' if refused else 'NOT refused')
     proved, right = is_proved(folder, program), is_right(folder, program)
     path.write_text(text, encoding='utf-8')
     if not proved:
         return False, '`%s` is not proved' % new
-    return right == harmless, '`%s`: proved, and prints what is %s' % (new, 'right' if right else 'wrong')
+    return right == (kind == HARMLESS), '`%s`: proved, and prints what is %s' % (new, 'right' if right else 'wrong')
 
 
 def answers(job):
