@@ -1,12 +1,12 @@
 -- The tasks that a task made, and its live descendants: a task that made none has no descendant.
-use Rattle.std.specs.Prelude.{ℕ, zero, suc, ◌+◌, ◌≤◌, ◌<◌, ◌≡◌, ◌⊎◌}
-use Rattle.std.proofs.Common.{subst, inl, inr, arith}
+use Rattle.std.specs.Prelude.{ℕ, zero, suc, ◌+◌, ◌≤◌, ◌<◌, ◌≡◌, ◌⊎◌, false}
+use Rattle.std.proofs.Common.{subst, inl, inr, arith, sym}
 use Rattle.std.proofs.Math.Decide.{dec_lt}
 use Rattle.session.specs.Table.{Session}
 use Rattle.session.specs.declared.Field.TheVariants.{Objects, TaskState, TaskCreator}
 use Rattle.session.specs.Names.{resolved, running, task_destroyed}
 use Rattle.rules.specs.Formula.{Formula, Holds, test, Formula.◌≐◌, Formula.◌≼◌, Formula.◌and◌, Formula.some}
-use Rattle.rules.specs.FormulaLaws.{test-same}
+use Rattle.rules.specs.FormulaLaws.{test-same, fails}
 use Rattle.rules.specs.Reading.{is_live}
 use Rattle.rules.specs.Descendants.{under, busy}
 use Rattle.rules.specs.Sound.{sound, creator, task_part}
@@ -102,6 +102,11 @@ module _ (s : Session) (x : Tidy s) (d a : ℕ) (m : 1 ≤ a) (l : d ≤ s Objec
   -- nobody lower does
   pub none_below : d < a → Holds (under c d d a) → ⊥
   none_below b u = let z = under_lower s x.frame.falls d d a l u in omega arith
+
+-- whoever is past running is none of them that are live
+pub late_dead : (s : Session) (d a v : ℕ) → v ≡ s TaskState d → running < v
+    → false ≡ test (is_live s d and under (s TaskCreator) d d a)
+late_dead s d a v e late = sym (fails (is_live s d and under (s TaskCreator) d d a) (λ y. let l = y.0.1 in omega (arith, e)))
 
 -- a live child makes a task busy
 pub live_child : (s : Session) → Tidy s → (h : ℕ) → 1 ≤ h → Holds (has_child s h running) → Holds (busy s h)

@@ -58,6 +58,7 @@ fn is_below(s: &[u64], d: u64, a: u64) -> bool
 
 // Whether d is a live task and descends from task a; an object that is no task has no creator, and is passed first. Internal, as
 // `has_child` is.
+#[tactic(auto, using(crate::specs::Children::late_dead))]
 fn is_live_below(s: &[u64], d: u64, a: u64) -> bool
     requires { (words ≤ length s.now) × Tidy (read s.now) × (1 ≤ a) × (d ≤ read s.now Objects 0) }
     ensures { result ≡ test (is_live (was s.now) d and under (was s.now TaskCreator) d d a) }

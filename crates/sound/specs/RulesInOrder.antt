@@ -1,6 +1,7 @@
 -- The rules of a sound session, in the order in which the code looks at them.
 use Rattle.std.specs.Prelude.{ℕ, zero, suc, ◌+◌, ◌*◌, ◌/◌, ◌%◌, ◌≤◌, ◌<◌, ◌≡◌, refl, List, Bool, false, length, leb}
 use Rattle.std.proofs.Common.{sym, ◌∙◌, subst, inl, inr, arith, le-leb}
+use Rattle.std.proofs.lemmas.Bool.{lt-leb}
 use Rattle.session.specs.Table.{Session, read, words, pick}
 use Rattle.session.specs.declared.Field.TheVariants.{Objects, Links, Kind, SlotMode, SlotMark, SlotPayload}
 use Rattle.session.specs.Names.{held, task, most_objects, most_links, object_places}
@@ -25,6 +26,11 @@ sound_memory ws = pick (leb words (length ws)) (test (sound (read ws))) false
 pub memory_tested : (ws : List ℕ) → words ≤ length ws → sound_memory ws ≡ test (sound (read ws))
 unfolding sound_memory
 memory_tested ws h = rw (le-leb words (length ws) h)
+
+-- and of shorter memory
+pub short_unsound : (ws : List ℕ) → length ws < words → false ≡ sound_memory ws
+unfolding sound_memory
+short_unsound ws h = rw (lt-leb words (length ws) h) refl
 
 -- the numbers of objects and links, as they were read
 pub record Counted (s : Session) (n m : ℕ) : Type 0 where

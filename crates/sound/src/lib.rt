@@ -116,6 +116,7 @@ fn is_sound_session(s: &[u64]) -> bool
 }
 
 // Whether lent memory holds a sound session; memory that is too short does not. Never writes.
+#[tactic(auto, using(crate::specs::RulesInOrder::short_unsound))]
 pub fn is_sound(s: &[u64]) -> bool
     ensures { result ≡ sound_memory s.now }
 {

@@ -1,12 +1,14 @@
--- `sound::is_sound` meets its contract: too short memory is not sound, any other as `is_sound_session` answers (`sound_memory`).
-use borrow.Author.Tests.{le-leb, lt-leb}
-use Rattle.sound.specs.RulesInOrder.{sound_memory}
+-- `sound::is_sound` meets its contract: too short memory is not sound (`short_unsound`), any other as `is_sound_session` answers
+-- (`memory_tested`).
+use Prim.Native.Nat.{◌≤◌}
+use mathlib.Core.Path.{sym, ◌∙◌}
+use native.Mathlib.Omega.{arith}
+use lib.ListN.{length}
+use Rattle.session.specs.Table.{words}
+use Rattle.sound.specs.RulesInOrder.{memory_tested}
 use Rattle.sound.proofs.is_sound.Goals as goal
 
-pub returns-then-s-lt-WORDS : goal.returns-then-s-lt-WORDS
-unfolding sound_memory
-returns-then-s-lt-WORDS c = rw (lt-leb _ _ c.if-s-lt-WORDS.true)
-
 pub returns : goal.returns
-unfolding sound_memory
-returns c = rw (le-leb _ _ c.if-s-lt-WORDS.false) c.is_sound_session.ensures
+returns c =
+    let long : words ≤ length c.args.s.now = omega arith in
+    c.is_sound_session.ensures ∙ sym (memory_tested c.args.s.now long)

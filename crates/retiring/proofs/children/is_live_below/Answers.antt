@@ -1,5 +1,5 @@
 -- `retiring::children::is_live_below` meets its contract: one whose creator is lower than a is not below it (`below_none`), a later state
--- is not live (`fails`); else who descends from a task is one, and live (`live_below`).
+-- is not live (`late_dead`); else who descends from a task is one, and live (`live_below`).
 use mathlib.Core.Path.{sym, ◌∙◌}
 use native.Mathlib.Omega.{arith}
 use Rattle.session.specs.Table.{read}
@@ -14,12 +14,9 @@ returns-then-get-a c =
     let e = c.get.ensures in
     sym (fails _ (λ y. below_none (read c.args.s.now) p.1 c.args.d c.args.a p.2 p.3 (omega (arith, e, low)) y.1))
 
-pub returns-then-get-gt-RUNNING : goal.returns-then-get-gt-RUNNING
-returns-then-get-gt-RUNNING c = sym (fails _ (λ y. omega (arith, y.0.1, c.get-2.ensures, c.if-get-gt-RUNNING.true)))
-
 pub returns : goal.returns
 returns c =
     let p = c.requires in
     let e = c.get-2.ensures in
     c.is_below.ensures
-    ∙ live_below (read c.args.s.now) p.1 c.args.d c.args.a p.2 p.3 (omega (arith, e, c.if-get-gt-RUNNING.false))
+    ∙ live_below (read c.args.s.now) p.1 c.args.d c.args.a p.2 p.3 (omega (arith, e))
