@@ -168,8 +168,8 @@ pub fn is_free(s: &[u64], t: u64) -> bool
         }
         let mut q: usize = 0;
         while q < 16 * found {
-            if hold_clashes(s, t, slot, place_at(&holders, q)) {
-                free = false;
+            free &= !hold_clashes(s, t, slot, place_at(&holders, q));
+            if !free {
                 break 'slots;
             }
             q = next_place(s, &holders, found, q);

@@ -1,6 +1,6 @@
 -- The steps climbed on the walk upwards, and what stops it.
 use Rattle.std.specs.Prelude.{ℕ, ◌+◌, ◌-◌, ◌≤◌, ◌≡◌, refl, Bool, true, false, List, ◌⊎◌}
-use Rattle.std.proofs.Common.{subst, inl, inr, arith}
+use Rattle.std.proofs.Common.{sym, subst, inl, inr, arith}
 use Rattle.session.specs.Table.{Session, change}
 use Rattle.session.specs.declared.Field.TheVariants.{Objects, TaskState, TaskCreator}
 use Rattle.session.specs.Names.{running}
@@ -110,3 +110,7 @@ module _ (s : Session) (x : Tidy s) (h : ℕ) (l : h ≤ s Objects 0) where
       go : (e : ℕ) → Holds (finishes s e) → (e ≡ h + 1) ⊎ Reached c (done_creator s h) (e - 1) → Reached c (c h) (e - 1)
       go e f (inl q) = absurd (n (subst (λ (k : ℕ). Holds (finishes s k)) q f))
       go e f (inr r) = rw (creator-done s h dead) at r
+
+-- main, which has no creator, climbs no step
+pub no_step : (s : Session) (h u : ℕ) → u ≡ s TaskCreator h → u ≡ 0 → ◌≡◌ {A = ℕ} 0 (choose (1 ≼ s TaskCreator h) 1 0)
+no_step s h u e z = sym (choose_no {A = ℕ} (1 ≼ s TaskCreator h) 1 0 (λ m. omega arith))

@@ -52,6 +52,7 @@ pub fn task_waits(s: &[u64], h: u64) -> bool
 }
 
 // The creator of task h, or 0 if it is live: no task above a live one can be done. Internal, as `task_waits` is.
+#[tactic(auto, using(crate::specs::Climb::live_creator))]
 fn done_creator(s: &[u64], h: u64) -> u64
     requires { (words ≤ length s.now) × Tidy (read s.now) × (h ≤ read s.now Objects 0) }
     ensures { result ≡ done_creator (was s.now) h }
@@ -77,6 +78,7 @@ pub fn stops_above(s: &[u64], h: u64) -> bool
 }
 
 // The first step of a climb from task h: none from main, which has no creator. Internal, as `task_waits` is.
+#[tactic(auto, using(crate::specs::Steps::no_step))]
 pub fn first_step(s: &[u64], h: u64) -> u64
     requires { (words ≤ length s.now) × Tidy (read s.now) × (h ≤ read s.now Objects 0) }
     ensures { result ≡ choose (1 ≼ was s.now TaskCreator h) 1 0 }
@@ -113,7 +115,8 @@ pub fn climb(s: &[u64], live: &[u64], fires: &mut [u64], walk: Walk, h: u64) -> 
         × Climbed (read s.now) fires.old walk.found h × (walk.steps + h ≤ most_objects) }
     ensures { Walked (was s.now) fires.new walk result h }
 {
-    if live[h as usize] != 0 {
+    let busy = live[h as usize] != 0;
+    if busy {
         return walk;
     }
     let steps = walk.steps;

@@ -1,6 +1,6 @@
 -- `sheet_to_text::print` writes the text of what it read: its memory is room enough, so that check 1 refuses nothing, and what it writes,
 -- `out[..used]`, is all that is to be printed.
-use Rattle.std.proofs.Common.{ℕ, ◌≡◌, ◌<◌, ◌≤◌, List, arith, rules, sym, subst, length, take, length-take-le}
+use Rattle.std.proofs.Common.{ℕ, ◌≡◌, ◌<◌, ◌≤◌, List, arith, sym, subst, length, take, length-take-le}
 use Rattle.std.proofs.lemmas.Result.{on_ok_weaker}
 use Rattle.std.specs.Prelude.{Option, IfSome}
 use Rattle.std.specs.Io.KnownBytes.{Appends, Consumes, IsAtEnd}
@@ -34,20 +34,21 @@ pub slice_bounds-write_all-end : goal.slice_bounds-write_all-end
 slice_bounds-write_all-end g c =
     let read = c.in_ok-n.ensures in
     let call = c.to_text-printed.ensures in
-    (whole c.in_ok-n.n c.read_full.new.memory _ _ _ read.in_bounds.0 (search rules) (search rules) call.answer call.bytes).inside
+    let all = whole c.in_ok-n.n c.read_full.new.memory _ _ _ read.in_bounds.0 (omega arith) (omega arith) call.answer call.bytes in
+    omega (arith, all.inside)
 
 pub slice_bounds-write_all-end-2 : goal.slice_bounds-write_all-end-2
 slice_bounds-write_all-end-2 g c =
     let read = c.in_ok-n.ensures in
     let call = c.to_text-printed.ensures in
-    let all = whole c.in_ok-n.n c.read_full.new.memory _ _ _ read.in_bounds.0 (search rules) (search rules) call.answer call.bytes in
-    sym (length-take-le c.to_text-printed.result.used c.to_text-printed.new.out all.inside)
+    let all = whole c.in_ok-n.n c.read_full.new.memory _ _ _ read.in_bounds.0 (omega arith) (omega arith) call.answer call.bytes in
+    sym (length-take-le _ _ (omega (arith, all.inside)))
 
 pub returns : goal.returns
 returns g c =
     let read = c.in_ok-n.ensures in
     let call = c.to_text-printed.ensures in
-    let all = whole c.in_ok-n.n c.read_full.new.memory _ _ _ read.in_bounds.0 (search rules) (search rules) call.answer call.bytes in
+    let all = whole c.in_ok-n.n c.read_full.new.memory _ _ _ read.in_bounds.0 (omega arith) (omega arith) call.answer call.bytes in
     on_ok_weaker c.write_all.result
-    (written _ _ _ _ c.in_ok-n.n c.read_full.new.memory _ read.in_bounds.0 (search rules) read.came read.ended all.told)
+    (written _ _ _ _ c.in_ok-n.n c.read_full.new.memory _ read.in_bounds.0 (omega arith) read.came read.ended all.told)
     c.write_all.ensures.bytes

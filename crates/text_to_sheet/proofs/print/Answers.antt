@@ -1,6 +1,6 @@
 -- `text_to_sheet::print` writes what is printed for what it read: its memory is room enough, so that check 1 refuses nothing, and what it
 -- writes, `out[..used]`, is all that is to be printed.
-use Rattle.std.proofs.Common.{ℕ, ◌≡◌, ◌<◌, ◌≤◌, ◌⊎◌, inl, inr, List, arith, rules, ap, sym, subst, ◌∙◌, length, take, take_all, length-take-le}
+use Rattle.std.proofs.Common.{ℕ, ◌≡◌, ◌<◌, ◌≤◌, ◌⊎◌, inl, inr, List, arith, ap, sym, subst, ◌∙◌, length, take, take_all, length-take-le}
 use Rattle.std.proofs.lemmas.Bool.{cases_lt}
 use Rattle.std.proofs.lemmas.Result.{on_ok_weaker}
 use Rattle.std.specs.Prelude.{Option, IfSome}
@@ -43,20 +43,21 @@ pub slice_bounds-write_all-end : goal.slice_bounds-write_all-end
 slice_bounds-write_all-end g c =
     let read = c.in_ok-n.ensures in
     let call = c.put_printed-printed.ensures in
-    (whole c.in_ok-n.n c.read_full.new.memory _ _ _ read.in_bounds.0 (search rules) (search rules) call.answer call.bytes).inside
+    let all = whole c.in_ok-n.n c.read_full.new.memory _ _ _ read.in_bounds.0 (omega arith) (omega arith) call.answer call.bytes in
+    omega (arith, all.inside)
 
 pub slice_bounds-write_all-end-2 : goal.slice_bounds-write_all-end-2
 slice_bounds-write_all-end-2 g c =
     let read = c.in_ok-n.ensures in
     let call = c.put_printed-printed.ensures in
-    let all = whole c.in_ok-n.n c.read_full.new.memory _ _ _ read.in_bounds.0 (search rules) (search rules) call.answer call.bytes in
-    sym (length-take-le c.put_printed-printed.result.used c.put_printed-printed.new.out all.inside)
+    let all = whole c.in_ok-n.n c.read_full.new.memory _ _ _ read.in_bounds.0 (omega arith) (omega arith) call.answer call.bytes in
+    sym (length-take-le _ _ (omega (arith, all.inside)))
 
 pub returns : goal.returns
 returns g c =
     let read = c.in_ok-n.ensures in
     let call = c.put_printed-printed.ensures in
-    let all = whole c.in_ok-n.n c.read_full.new.memory _ _ _ read.in_bounds.0 (search rules) (search rules) call.answer call.bytes in
+    let all = whole c.in_ok-n.n c.read_full.new.memory _ _ _ read.in_bounds.0 (omega arith) (omega arith) call.answer call.bytes in
     on_ok_weaker c.write_all.result
-    (written _ _ _ _ c.in_ok-n.n c.read_full.new.memory _ read.in_bounds.0 (search rules) read.came read.ended all.told)
+    (written _ _ _ _ c.in_ok-n.n c.read_full.new.memory _ read.in_bounds.0 (omega arith) read.came read.ended all.told)
     c.write_all.ensures.bytes

@@ -11,6 +11,7 @@ use Rattle.session.specs.Names.{most_objects}
 use Rattle.session.specs.Table.{at, read}
 use Rattle.session.specs.declared.Field.TheVariants.{TaskSlots}
 use mathlib.Core.Path.{◌∙◌, refl}
+use Rattle.std.proofs.lemmas.Bool.{not-true, not-false}
 use native.Mathlib.Omega.{arith}
 use Rattle.checks.proofs.granting.is_free.Goals as goal
 
@@ -91,12 +92,13 @@ loop-q-preserved c =
     let i = c.loop-q.invariant in
     let f = c.find_more-found.ensures in
     let e = record_slot _ _ _ c.task_at-task.ensures c.slots.j (omega arith) in
-    let apart = rw (e, c.place_at.ensures) at (no _ c.hold_clashes.ensures c.if-hold_clashes.false) in
+    let other = not-true c.hold_clashes.result (rw i.0 at c.if-not-free.false) in
+    let apart = rw (e, c.place_at.ensures) at (no _ c.hold_clashes.ensures other) in
     let a = c.args in
     let s = read a.s.now in
     let slot = slot_at s (at a.t c.slots.j) in
     let more = scan_more s a.t slot c.loop-q.holders c.loop-q.q _ i.4 apart (place-first _ _ _ i.1) p.1 in
-    (i.0, f.listed, omega (arith, p.0, f.up), f.done, scan_same s a.t slot c.loop-q.holders _ _ _ f.same p.0 more)
+    (c.if-not-free.false, f.listed, omega (arith, p.0, f.up), f.done, scan_same s a.t slot c.loop-q.holders _ _ _ f.same p.0 more)
 
 pub slots-preserved : goal.slots-preserved
 slots-preserved c =
@@ -116,10 +118,11 @@ slots-preserved c =
 pub returns-after-slots : goal.returns-after-slots
 returns-after-slots c = let h = c.slots in h.invariant.0 ∙ right _ (λ j m. h.invariant.4.all j (omega arith))
 
-pub returns-then-hold_clashes : goal.returns-then-hold_clashes
-returns-then-hold_clashes c =
+pub returns-then-not-free : goal.returns-then-not-free
+returns-then-not-free c =
+    let clash = not-false c.hold_clashes.result (rw c.loop-q.invariant.0 at c.if-not-free.true) in
     let e = record_slot _ _ _ c.task_at-task.ensures c.slots.j (omega arith) in
     let claim = rw e at (yes _ c.is_claim.ensures c.if-not-is_claim.false) in
-    let hit = rw (e, c.place_at.ensures) at (yes _ c.hold_clashes.ensures c.if-hold_clashes.true) in
-    wrong _ (λ f. taken _ _ _ c.requires.1 _ _ c.loop-q.invariant.1 c.requires.3 c.loop-q.q (omega arith) claim hit
+    let hit = rw (e, c.place_at.ensures) at (yes _ c.hold_clashes.ensures clash) in
+    c.if-not-free.true ∙ wrong _ (λ f. taken _ _ _ c.requires.1 _ _ c.loop-q.invariant.1 c.requires.3 c.loop-q.q (omega arith) claim hit
     (f c.slots.j (omega arith)))

@@ -12,13 +12,13 @@ use Rattle.retiring.specs.Climb.{climbed-busy, creator_none, done_lower}
 use Rattle.retiring.specs.Steps.{creator-over, live_stops, busy_steps, main_steps, one-step, more_steps}
 use Rattle.retiring.proofs.climbing.+climb.Goals as goal
 
-pub returns-then-live-h-ne0 : goal.returns-then-live-h-ne0
+pub returns-then-busy : goal.returns-then-busy
 unfolding Shows
-returns-then-live-h-ne0 t c =
+returns-then-busy t c =
     let p = c.requires in
     let s = read c.args.s.now in
     let h = c.args.h in
-    let b = mark_yes _ _ (p.5 h (omega (arith, p.7.known, p.1.frame.few))) c.if-live-h-ne0.true in
+    let b = mark_yes _ _ (p.5 h (omega (arith, p.7.known, p.1.frame.few))) (λ z. omega arith) in
     let z = busy_steps s p.1 h p.7.known p.3 b in
     record { fires = climbed-busy s p.1 h p.7.known _ _ p.2 p.7 b; steps = omega arith }
 
@@ -27,7 +27,7 @@ unfolding Shows
 mark_task-found-requires t c =
     let p = c.requires in
     let h = c.args.h in
-    let idle = mark_no _ _ (p.5 h (omega (arith, p.7.known, p.1.frame.few))) c.if-live-h-ne0.false in
+    let idle = mark_no _ _ (p.5 h (omega (arith, p.7.known, p.1.frame.few))) (omega arith) in
     (p.0, p.1, p.2, idle, p.6, p.7)
 
 pub returns-then-get-eq0 : goal.returns-then-get-eq0
@@ -45,7 +45,7 @@ returns-then-c-eq0 t c =
     let p = c.requires in
     let s = read c.args.s.now in
     let h = c.args.h in
-    let idle = mark_no _ _ (p.5 h (omega (arith, p.7.known, p.1.frame.few))) c.if-live-h-ne0.false in
+    let idle = mark_no _ _ (p.5 h (omega (arith, p.7.known, p.1.frame.few))) (omega arith) in
     let none = sym c.done_creator-c.ensures ∙ c.if-c-eq0.true in
     let some = c.if-get-eq0.false in
     let e = c.get.ensures in
@@ -81,7 +81,7 @@ returns t c =
     let p = c.requires in
     let s = read c.args.s.now in
     let h = c.args.h in
-    let idle = mark_no _ _ (p.5 h (omega (arith, p.7.known, p.1.frame.few))) c.if-live-h-ne0.false in
+    let idle = mark_no _ _ (p.5 h (omega (arith, p.7.known, p.1.frame.few))) (omega arith) in
     let e = c.done_creator-c.ensures in
     let d = creator-over s p.1 h p.7.known (λ z. c.if-c-eq0.false (e ∙ z)) in
     let some = c.if-get-eq0.false in

@@ -1,9 +1,9 @@
--- `retiring::climbing::done_creator` meets its contract: a live creator counts as 0 (`creator-live`), any other as itself
+-- `retiring::climbing::done_creator` meets its contract: a live creator counts as 0 (`live_creator`), any other as itself
 -- (`creator-done`); that it is made bounds the place read (`creator-made`).
 use mathlib.Core.Path.{sym, ◌∙◌}
 use native.Mathlib.Omega.{arith}
 use Rattle.session.specs.Table.{read}
-use Rattle.retiring.specs.Climb.{creator-made, creator-live, creator-done}
+use Rattle.retiring.specs.Climb.{creator-made, creator-done}
 use Rattle.retiring.proofs.climbing.done_creator.Goals as goal
 
 pub get-requires : goal.get-requires
@@ -11,13 +11,8 @@ get-requires c =
     let p = c.requires in
     (p.0, omega (arith, c.get-c.ensures, creator-made (read c.args.s.now) p.1 c.args.h p.2, p.1.frame.few))
 
-pub returns-then-get-le-RUNNING : goal.returns-then-get-le-RUNNING
-returns-then-get-le-RUNNING c =
-    let e = c.get-c.ensures in
-    sym (creator-live _ _ (rw (c.get.ensures, e) at c.if-get-le-RUNNING.true))
-
 pub returns : goal.returns
 returns c =
     let e = c.get-c.ensures in
-    let late = rw (c.get.ensures, e) at c.if-get-le-RUNNING.false in
-    e ∙ sym (creator-done _ _ (λ l. omega (arith, l, late)))
+    let state = rw e at c.get.ensures in
+    e ∙ sym (creator-done _ _ (λ l. omega (arith, state)))
