@@ -103,7 +103,7 @@ module _ (s : Session) (x : Tidy s) (d a : ℕ) (m : 1 ≤ a) (l : d ≤ s Objec
   pub none_below : d < a → Holds (under c d d a) → ⊥
   none_below b u = let z = under_lower s x.frame.falls d d a l u in omega arith
 
--- whoever is past running is none of them that are live
+-- a task past running is not live, and so no live descendant
 pub late_dead : (s : Session) (d a v : ℕ) → v ≡ s TaskState d → running < v
     → false ≡ test (is_live s d and under (s TaskCreator) d d a)
 late_dead s d a v e late = sym (fails (is_live s d and under (s TaskCreator) d d a) (λ y. let l = y.0.1 in omega (arith, e)))

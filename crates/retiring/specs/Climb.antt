@@ -70,7 +70,7 @@ pub creator-done : (s : Session) (h : ℕ) → (s TaskState (s TaskCreator h) �
 unfolding done_creator
 creator-done s h n = choose_no (s TaskState (s TaskCreator h) ≼ running) 0 (s TaskCreator h) n
 
--- what was read of it: a creator whose state is live counts as 0
+-- as the code reads it: a creator whose state is live counts as 0
 pub live_creator : (s : Session) (h c v : ℕ) → c ≡ s TaskCreator h → v ≡ s TaskState c → v ≤ running → 0 ≡ done_creator s h
 live_creator s h c v e f l = sym (creator-live s h (let g : v ≡ s TaskState (s TaskCreator h) = rw e at f in omega arith))
 

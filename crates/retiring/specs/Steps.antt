@@ -111,6 +111,6 @@ module _ (s : Session) (x : Tidy s) (h : ℕ) (l : h ≤ s Objects 0) where
       go e f (inl q) = absurd (n (subst (λ (k : ℕ). Holds (finishes s k)) q f))
       go e f (inr r) = rw (creator-done s h dead) at r
 
--- main, which has no creator, climbs no step
+-- whoever has no creator, as main, has no first step
 pub no_step : (s : Session) (h u : ℕ) → u ≡ s TaskCreator h → u ≡ 0 → ◌≡◌ {A = ℕ} 0 (choose (1 ≼ s TaskCreator h) 1 0)
 no_step s h u e z = sym (choose_no {A = ℕ} (1 ≼ s TaskCreator h) 1 0 (λ m. omega arith))

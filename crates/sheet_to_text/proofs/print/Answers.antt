@@ -12,7 +12,7 @@ use Rattle.listing.specs.Listing.{text_of, room_for}
 use Rattle.sheet_to_text.proofs.print.Goals as goal
 
 -- what was read has n bytes, and the memory for its text 16 for each of them, and 64 more
-whole : (n : ℕ) (memory out out' : List ℕ) (r : Printed) → n ≤ length memory → length memory ≡ 32768 → length out ≡ 524352
+whole : (n : ℕ) (memory out out' : List ℕ) (r : Printed) → n ≤ length memory → length memory ≤ 32768 → length out ≡ 524352
     → r ≡ printed (room_for (take n memory)) (text_of (take n memory)) out
     → out' ≡ printed_memory (room_for (take n memory)) (text_of (take n memory)) out
     → Whole (text_of (take n memory)) r out'

@@ -20,7 +20,7 @@ printed_front typed = go (cases_lt most (length typed))
     go (inr h) = ap printed_of (take_all 262145 typed (omega arith))
 
 -- what was read has n bytes, and the memory for what is printed 16 more
-whole : (n : ℕ) (memory out out' : List ℕ) (r : Printed) → n ≤ length memory → length memory ≡ 262145 → length out ≡ 262161
+whole : (n : ℕ) (memory out out' : List ℕ) (r : Printed) → n ≤ length memory → length memory ≤ 262145 → length out ≡ 262161
     → r ≡ printed (room_for (take n memory)) (printed_of (take n memory)) out
     → out' ≡ printed_memory (room_for (take n memory)) (printed_of (take n memory)) out
     → Whole (printed_of (take n memory)) r out'

@@ -6,12 +6,11 @@ use Rattle.checks.specs.Scan.{free_scanned, free_unclaimed, record_count, record
 use Rattle.checks.specs.Scan.{scan_same, taken, through-more, through_none}
 use Rattle.checks.specs.HolderList.{listed_few, listed-first, place_few, place-first}
 use Rattle.checks.specs.SoundParts.{few_objects, sound_few_slots}
-use Rattle.reading.specs.TestLaws.{no, right, wrong, yes}
+use Rattle.reading.specs.TestLaws.{no, no_not, right, wrong, yes, yes_not}
 use Rattle.session.specs.Names.{most_objects}
 use Rattle.session.specs.Table.{at, read}
 use Rattle.session.specs.declared.Field.TheVariants.{TaskSlots}
 use mathlib.Core.Path.{◌∙◌, refl}
-use Rattle.std.proofs.lemmas.Bool.{not-true, not-false}
 use native.Mathlib.Omega.{arith}
 use Rattle.checks.proofs.granting.is_free.Goals as goal
 
@@ -92,8 +91,7 @@ loop-q-preserved c =
     let i = c.loop-q.invariant in
     let f = c.find_more-found.ensures in
     let e = record_slot _ _ _ c.task_at-task.ensures c.slots.j (omega arith) in
-    let other = not-true c.hold_clashes.result (rw i.0 at c.if-not-free.false) in
-    let apart = rw (e, c.place_at.ensures) at (no _ c.hold_clashes.ensures other) in
+    let apart = rw (e, c.place_at.ensures) at (no_not _ c.hold_clashes.ensures (rw i.0 at c.if-not-free.false)) in
     let a = c.args in
     let s = read a.s.now in
     let slot = slot_at s (at a.t c.slots.j) in
@@ -120,9 +118,8 @@ returns-after-slots c = let h = c.slots in h.invariant.0 ∙ right _ (λ j m. h.
 
 pub returns-then-not-free : goal.returns-then-not-free
 returns-then-not-free c =
-    let clash = not-false c.hold_clashes.result (rw c.loop-q.invariant.0 at c.if-not-free.true) in
     let e = record_slot _ _ _ c.task_at-task.ensures c.slots.j (omega arith) in
     let claim = rw e at (yes _ c.is_claim.ensures c.if-not-is_claim.false) in
-    let hit = rw (e, c.place_at.ensures) at (yes _ c.hold_clashes.ensures clash) in
+    let hit = rw (e, c.place_at.ensures) at (yes_not _ c.hold_clashes.ensures (rw c.loop-q.invariant.0 at c.if-not-free.true)) in
     c.if-not-free.true ∙ wrong _ (λ f. taken _ _ _ c.requires.1 _ _ c.loop-q.invariant.1 c.requires.3 c.loop-q.q (omega arith) claim hit
     (f c.slots.j (omega arith)))
