@@ -71,8 +71,8 @@ unfolding done_creator
 creator-done s h n = choose_no (s TaskState (s TaskCreator h) ≼ running) 0 (s TaskCreator h) n
 
 -- as the code reads it: a creator whose state is live counts as 0
-pub live_creator : (s : Session) (h c v : ℕ) → c ≡ s TaskCreator h → v ≡ s TaskState c → v ≤ running → 0 ≡ done_creator s h
-live_creator s h c v e f l = sym (creator-live s h (let g : v ≡ s TaskState (s TaskCreator h) = rw e at f in omega arith))
+pub live_creator_read : (s : Session) (h c v : ℕ) → c ≡ s TaskCreator h → v ≡ s TaskState c → v ≤ running → 0 ≡ done_creator s h
+live_creator_read s h c v e f l = sym (creator-live s h (let g : v ≡ s TaskState (s TaskCreator h) = rw e at f in omega arith))
 
 pub creator_none : (s : Session) (h : ℕ) → s TaskCreator h ≡ 0 → done_creator s h ≡ 0
 creator_none s h z = go (decide (s TaskState (s TaskCreator h) ≼ running))

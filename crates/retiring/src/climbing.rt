@@ -52,7 +52,7 @@ pub fn task_waits(s: &[u64], h: u64) -> bool
 }
 
 // The creator of task h, or 0 if it is live: no task above a live one can be done. Internal, as `task_waits` is.
-#[tactic(auto, using(crate::specs::Climb::live_creator))]
+#[tactic(auto, using(crate::specs::Climb::live_creator_read))]
 fn done_creator(s: &[u64], h: u64) -> u64
     requires { (words ≤ length s.now) × Tidy (read s.now) × (h ≤ read s.now Objects 0) }
     ensures { result ≡ done_creator (was s.now) h }

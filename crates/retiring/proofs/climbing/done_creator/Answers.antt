@@ -1,4 +1,4 @@
--- `retiring::climbing::done_creator` meets its contract: a live creator counts as 0 (`live_creator`), any other as itself
+-- `retiring::climbing::done_creator` meets its contract: a live creator counts as 0 (`live_creator_read`), any other as itself
 -- (`creator-done`); that it is made bounds the place read (`creator-made`).
 use mathlib.Core.Path.{sym, ◌∙◌}
 use native.Mathlib.Omega.{arith}
