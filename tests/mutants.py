@@ -151,7 +151,7 @@ CLAIMS = {
 
 NEEDED = re.compile(r'^(?:unfoldable |pub )*use Rattle\.rules\.(?:specs|proofs)\.(\w+)(?:\.| as )', re.M)
 UNFOLDABLE = re.compile(r'^ *unfoldable pub (?:use \S+\.\{(\w+)\}|(\S+) :)', re.M)
-FUNCTION = re.compile(r'^(?:pub )?fn .*?^}\n', re.M | re.S)
+FUNCTION = re.compile(r'^(?:#\[tactic\([^\n]*\n)?(?:(?:pub )?fn|impl) .*?^}\n', re.M | re.S)
 
 
 def text_of(path):

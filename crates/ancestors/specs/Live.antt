@@ -1,5 +1,5 @@
 -- Looking for live tasks from a handle down.
-use Rattle.std.specs.Prelude.{ℕ, ◌+◌, ◌-◌, ◌≤◌, ◌<◌, ◌≡◌}
+use Rattle.std.specs.Prelude.{ℕ, ◌+◌, ◌-◌, ◌≤◌, ◌<◌, ◌≡◌, Option, MatchOption}
 use Rattle.std.proofs.Common.{subst, arith}
 use Rattle.std.proofs.Math.Decide.{dec_lt}
 use Rattle.session.specs.Table.{Session}
@@ -26,6 +26,10 @@ pub record Dead (s : Session) (high r : ℕ) : Type 0 where
 pub record LastLive (s : Session) (high r : ℕ) : Type 0 where
   pub passed : Dead s high r
   pub here : 1 ≤ r → Holds (is_live s r)
+
+-- it, or that there is none
+abbrev pub LastOf : Session → ℕ → Option ℕ → Type 0
+LastOf s high r = MatchOption r (LastLive s high 0) (λ q. LastLive s high q × (1 ≤ q))
 
 module _ (s : Session) (high : ℕ) where
   pub dead_none : Dead s high high

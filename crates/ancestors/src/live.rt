@@ -1,17 +1,18 @@
 // Looking for live tasks from a handle down, eight handles at a time: most handles are not theirs.
-ghost use Rattle.std.specs.Prelude.{◌≡◌, ◌+◌, ◌≤◌, ◌<◌, length};
+ghost use Rattle.std.specs.Prelude.{◌≡◌, ◌+◌, ◌≤◌, ◌<◌};
 ghost use Rattle.session.specs.Names.{most_objects, object_places};
-ghost use Rattle.session.specs.Table.{read, words};
+ghost use Rattle.session.specs.Table.{read};
 ghost use Rattle.session.specs.Lent.{was};
 ghost use Rattle.session.specs.declared.Field.TheVariants.{Objects};
-ghost use Rattle.rules.specs.Formula.{test, Formula.some};
-ghost use Rattle.ancestors.specs.Live.{Stated, live_state, LastLive};
+ghost use Rattle.rules.specs.Formula.{test};
+ghost use Rattle.ancestors.specs.Live.{Stated, live_state, LastOf};
 
-use session::{Field, names};
+use reading::any_of_eight;
+use session::{Field, Memory, names};
 
-// Whether the state at h is a live task's. Internal: callers have shown the length and the handle.
-fn is_live_state(s: &[u64], h: usize) -> bool
-    requires { (words ≤ length s.now) × (h < object_places) }
+// Whether the state at h is a live task's. Internal: callers have shown the handle.
+fn is_live_state(s: &Memory, h: usize) -> bool
+    requires { h < object_places }
     ensures { result ≡ test (live_state (was s.now) h) }
 {
     let state = session::get(s, Field::TaskState, h);
@@ -21,41 +22,20 @@ fn is_live_state(s: &[u64], h: usize) -> bool
     state <= names::RUNNING
 }
 
-// Whether one of the eight handles from h on has such a state. The bound of the loop is constant, so that the compiler makes eight
-// tests in a row of it. Internal, as `is_live_state` is.
-fn has_live_state(s: &[u64], h: usize) -> bool
-    requires { (words ≤ length s.now) × (h + 8 ≤ object_places) }
-    ensures { result ≡ test (some 8 (λ n. live_state (was s.now) (h + n))) }
+// The last live task up to the handle `high`. Internal: callers have shown the handle, and that tasks have a state.
+pub fn last_live(s: &Memory, high: u64) -> Option<u64>
+    requires { (read s.now Objects 0 ≤ most_objects) × Stated (read s.now) × (high ≤ read s.now Objects 0) }
+    ensures { LastOf (was s.now) high result }
 {
-    let mut n: usize = 0;
-    while n < 8 {
-        if is_live_state(s, h + n) {
-            return true;
-        }
-        n += 1;
+    let mut top = high;
+    // a step of eight that ends at a test, which is no range
+    while 8 <= top && !any_of_eight((top - 7) as usize, |i| is_live_state(s, i)) {
+        top -= 8;
     }
-    false
-}
-
-// The last live task up to the handle `high`, or 0 if there is none. Internal: callers have shown the length, the handle, and that tasks
-// have a state.
-pub fn last_live(s: &[u64], high: u64) -> u64
-    requires { (words ≤ length s.now) × (read s.now Objects 0 ≤ most_objects) × Stated (read s.now)
-        × (high ≤ read s.now Objects 0) }
-    ensures { LastLive (was s.now) high result }
-{
-    let mut h = high;
-    while 8 <= h {
-        if has_live_state(s, (h - 7) as usize) {
-            break;
-        }
-        h -= 8;
-    }
-    while 0 < h {
+    for h in (1..=top).rev() {
         if reading::is_live(s, h) {
-            return h;
+            return Some(h);
         }
-        h -= 1;
     }
-    h
+    None
 }

@@ -1,10 +1,9 @@
 -- What is printed from the start is the report.
-use Rattle.std.specs.Prelude.{ℕ, zero, suc, ◌+◌, List, [], ◌∷◌, ◌++◌, ◌≡◌}
+use Rattle.std.specs.Prelude.{ℕ, zero, suc, ◌+◌, List, [], ◌∷◌, ◌++◌, ◌≡◌, Ok, Err}
 use Rattle.std.proofs.Common.{append_assoc, ap, sym, ◌∙◌}
 use Rattle.std.proofs.Math.Path.{refl}
-use Rattle.number.specs.Number.{limit32, read_at}
-use Rattle.number.specs.declared.Reading.{Reading}
-use Rattle.number.specs.declared.Reading.TheVariants.{Value, CutShort, Bad}
+use Rattle.number.specs.Number.{limit32, read_at, Reading}
+use Rattle.number.specs.declared.Unread.TheVariants.{CutShort, Bad}
 use Rattle.rules.specs.Formula.{Formula, choose, Formula.◌≼◌}
 use Rattle.rules.specs.FormulaLaws.{Case, decide, passes, fails, Case.it_does, Case.it_does_not}
 use Rattle.sheet_counts.specs.declared.Tally.{Tally}
@@ -37,9 +36,9 @@ module _ (pending : List Entry) (t : Tally) where
   met-text : (r : Reading) (f : ℕ → ℕ → List ℕ) (g : ℕ → ℕ → Class) → ((v n : ℕ) → f v n ≡ text_by pending t (g v n))
       → met r (end_text pending t) f ≡ text_by pending t (met r stopped g)
   unfolding met end_text text_by one_pass
-  met-text (Value v n) f g h = h v n
-  met-text (Bad n) f g h = refl
-  met-text CutShort f g h = refl
+  met-text (Ok (v, n)) f g h = h v n
+  met-text (Err (Bad n)) f g h = refl
+  met-text (Err CutShort) f g h = refl
 
   -- a check that stops both, or what follows in both
   check-text : (f : Formula) (stop : ℕ) (x : List ℕ) (c : Class) → x ≡ text_by pending t c

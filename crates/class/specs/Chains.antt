@@ -1,7 +1,7 @@
 -- Steps one behind the other: from the start until nothing is left they print the report.
 use Prim.Native.Nat.{ℕ, zero, suc, ◌+◌, ◌*◌, ◌-◌, ◌≤◌, ◌<◌}
 use mathlib.Core.List.{List, [], ◌∷◌, ◌++◌, append_assoc, append-nil}
-use Rattle.std.specs.Prelude.{◌≡◌, take, drop}
+use Rattle.std.specs.Prelude.{◌≡◌, take, drop, Option, None, Some}
 use Rattle.std.proofs.Math.Path.{refl, ap, sym}
 use Rattle.std.proofs.Common.{◌∙◌, length-drop}
 use native.Mathlib.Omega.{arith}
@@ -11,8 +11,7 @@ use Rattle.rules.specs.FormulaLaws.{choose_case}
 use Rattle.class.specs.declared.Report.{Report}
 use Rattle.class.specs.declared.Stage.{Stage}
 use Rattle.class.specs.declared.Stage.TheVariants.{Head, Count, Learner, Turn, Length, Sheet, Line, Last, Nothing}
-use Rattle.class.specs.declared.Pending.{Pending}
-use Rattle.class.specs.declared.Pending.TheVariants.{Nobody, Somebody}
+use Rattle.class.specs.declared.Turned.{Turned}
 use Rattle.class_rules.specs.Report.{report}
 use Rattle.class.specs.StillPrinted.{text_at, report_from}
 use Rattle.class.specs.Begun.{begun-report}
@@ -64,10 +63,10 @@ module _ (file : List ℕ) (r : Report) (s : Session) where
   entry-rank zero = omega arith
   entry-rank (suc left) = omega arith
 
-  taken-rank : (at : ℕ) (p : Pending) → BehindSheet (taken file r s at p)
+  taken-rank : (at : ℕ) (p : Option Turned) → BehindSheet (taken file r s at p)
   unfolding taken after going rank entry_or_line
-  taken-rank at Nobody = entry-rank (r.left - 1)
-  taken-rank at (Somebody p) =
+  taken-rank at None = entry-rank (r.left - 1)
+  taken-rank at (Some p) =
       choose_case BehindSheet _ _ _
       (λ _. choose_case BehindSheet _ _ _ (λ _. entry-rank (r.left - 1)) (λ _. entry-rank (r.left - 1))) (λ _. entry-rank 0)
 
@@ -75,10 +74,10 @@ module _ (file : List ℕ) (r : Report) (s : Session) where
   unfolding sheet_taken rank entry_or_line
   sheet_rank at bytes = choose_case BehindSheet _ _ _ (λ _. taken-rank at r.pending) (λ _. entry-rank 0)
 
-  closed_last : (p : Pending) → (closed file r s p).report.stage ≡ Last
+  closed_last : (p : Option Turned) → (closed file r s p).report.stage ≡ Last
   unfolding closed
-  closed_last Nobody = refl
-  closed_last (Somebody p) = refl
+  closed_last None = refl
+  closed_last (Some p) = refl
 
 module _ (file : List ℕ) where
   -- the next step, what it prints, and where the report stands behind it

@@ -1,5 +1,5 @@
 -- Two sheets in one memory: the pending one lies in one half, and what is read next goes into the other.
-use Rattle.std.specs.Prelude.{ℕ, ◌+◌, ◌-◌, ◌≤◌, List, [], ◌∷◌, ◌≡◌, refl, ◌⊎◌, take, drop}
+use Rattle.std.specs.Prelude.{ℕ, ◌+◌, ◌-◌, ◌≤◌, List, [], ◌∷◌, ◌≡◌, refl, ◌⊎◌, take, drop, Option, None, Some}
 use Rattle.std.proofs.Common.{ap, sym, ◌∙◌, inl, inr, take-take, drop-drop}
 use native.Mathlib.Omega.{arith}
 use Rattle.std.proofs.Math.ListN.{length}
@@ -8,8 +8,6 @@ use Rattle.rules.specs.Formula.{choose, Formula.◌≐◌, Formula.◌≼◌}
 use Rattle.rules.specs.FormulaLaws.{choose_yes, choose_no, choose_case}
 use Rattle.class.specs.declared.Report.{Report}
 use Rattle.class.specs.declared.Turned.{Turned}
-use Rattle.class.specs.declared.Pending.{Pending}
-use Rattle.class.specs.declared.Pending.TheVariants.{Nobody, Somebody}
 use Rattle.class.specs.declared.Stage.{Stage}
 use Rattle.class.specs.declared.Stage.TheVariants.{Head, Count, Learner, Turn, Length, Sheet, Line, Last, Nothing}
 use Rattle.number.specs.declared.reader.Fed.{Fed}
@@ -22,14 +20,14 @@ use Rattle.class.specs.Steps.{going, valued, numbered, byte, Did, turned_in, she
 use Rattle.class.specs.Steps.{taken, sheet_taken, does_at, does}
 
 -- where the half begins in which no pending sheet lies
-unfoldable pub free_half : Pending → ℕ
-free_half Nobody = 0
-free_half (Somebody p) = choose (p.place ≐ 0) most_bytes 0
+unfoldable pub free_half : Option Turned → ℕ
+free_half None = 0
+free_half (Some p) = choose (p.place ≐ 0) most_bytes 0
 
 -- The pending sheet lies in one half.
-abbrev pub InHalf : Pending → Type 0
-InHalf Nobody = Unit {0}
-InHalf (Somebody p) = ((p.place ≡ 0) ⊎ (p.place ≡ most_bytes)) × (p.length ≤ most_bytes)
+abbrev pub InHalf : Option Turned → Type 0
+InHalf None = Unit {0}
+InHalf (Some p) = ((p.place ≡ 0) ⊎ (p.place ≡ most_bytes)) × (p.length ≤ most_bytes)
 
 -- So many bytes from a place on may have changed, and no other.
 pub record Apart (room room' : List ℕ) (place n : ℕ) : Type 0 where
@@ -38,8 +36,8 @@ pub record Apart (room room' : List ℕ) (place n : ℕ) : Type 0 where
   pub back : drop (place + n) room' ≡ drop (place + n) room
 
 -- What is read into the free half leaves the pending sheet as it is.
-same_sheet : (room room' : List ℕ) (n : ℕ) (p : Turned) → n ≤ most_bytes → InHalf (Somebody p)
-    → Apart room room' (free_half (Somebody p)) n
+same_sheet : (room room' : List ℕ) (n : ℕ) (p : Turned) → n ≤ most_bytes → InHalf (Some p)
+    → Apart room room' (free_half (Some p)) n
     → sheet_of room' p ≡ sheet_of room p
 unfolding free_half
 same_sheet room room' n p few h a = go h.0
@@ -51,29 +49,29 @@ same_sheet room room' n p few h a = go h.0
         (sym (take-take p.length most_bytes room' h.1) ∙ ap (take p.length) front
         ∙ take-take p.length most_bytes room h.1)
     go (inr e) =
-        let from = free_half (Somebody p) + n in
+        let from = free_half (Some p) + n in
         let k : from + (most_bytes - n) ≡ p.place = omega (arith, choose_no (p.place ≐ 0) most_bytes 0 (λ z. omega arith)) in
         ap (take p.length)
         (rw (sym k)
         (sym (drop-drop (most_bytes - n) from room') ∙ ap (drop (most_bytes - n)) a.back ∙ drop-drop (most_bytes - n) from room))
 
-pub pending_stays : (room room' : List ℕ) (n : ℕ) (p : Pending) → n ≤ most_bytes → InHalf p → Apart room room' (free_half p) n
+pub pending_stays : (room room' : List ℕ) (n : ℕ) (p : Option Turned) → n ≤ most_bytes → InHalf p → Apart room room' (free_half p) n
     → pending_in room' p ≡ pending_in room p
-pending_stays room room' n Nobody few h a = refl
-pending_stays room room' n (Somebody p) few h a =
+pending_stays room room' n None few h a = refl
+pending_stays room room' n (Some p) few h a =
     ap (λ (sheet : List ℕ). record { learner = p.learner; turn = p.turn; sheet = sheet } ∷ [])
     (same_sheet room room' n p few h a)
 
-pub free_most : (p : Pending) → free_half p ≤ most_bytes
+pub free_most : (p : Option Turned) → free_half p ≤ most_bytes
 unfolding free_half
-free_most Nobody = omega arith
-free_most (Somebody p) = choose_case (λ n. n ≤ most_bytes) (p.place ≐ 0) most_bytes 0 (λ _. omega arith) (λ _. omega arith)
+free_most None = omega arith
+free_most (Some p) = choose_case (λ n. n ≤ most_bytes) (p.place ≐ 0) most_bytes 0 (λ _. omega arith) (λ _. omega arith)
 
 -- A step leaves the pending sheet in a half, where it is handed bytes in a half.
-pub free_half_lem : (p : Pending) → (free_half p ≡ 0) ⊎ (free_half p ≡ most_bytes)
+pub free_half_lem : (p : Option Turned) → (free_half p ≡ 0) ⊎ (free_half p ≡ most_bytes)
 unfolding free_half
-free_half_lem Nobody = inl refl
-free_half_lem (Somebody p) = choose_case (λ n. (n ≡ 0) ⊎ (n ≡ most_bytes)) (p.place ≐ 0) most_bytes 0 (λ _. inr refl) (λ _. inl refl)
+free_half_lem None = inl refl
+free_half_lem (Some p) = choose_case (λ n. (n ≡ 0) ⊎ (n ≡ most_bytes)) (p.place ≐ 0) most_bytes 0 (λ _. inr refl) (λ _. inl refl)
 
 valued-pending : (r : Report) (stage : Stage) (v : ℕ) → (valued r stage v).pending ≡ r.pending
 unfolding valued going
@@ -102,28 +100,28 @@ module _ (room : List ℕ) (at : ℕ) (bytes : List ℕ) (r : Report) (s : Sessi
   Halved : Did → Type 0
   Halved d = InHalf d.report.pending
 
-  superseded_half : (p : Turned) → r.length ≤ most_bytes → InHalf (Somebody p)
-      → InHalf (Somebody (superseded room p (turned_in r at)))
+  superseded_half : (p : Turned) → r.length ≤ most_bytes → InHalf (Some p)
+      → InHalf (Some (superseded room p (turned_in r at)))
   unfolding superseded
   superseded_half p few i =
       let stays : least p.place (length room) ≡ p.place =
       choose_yes (p.place ≼ length room) p.place (length room) (inside i.0) in
-      choose_case (λ (q : Turned). InHalf (Somebody q)) (p.turn ≼ r.turn) _ _ (λ _. (half, few)) (λ _. (rw stays i.0, i.1))
+      choose_case (λ (q : Turned). InHalf (Some q)) (p.turn ≼ r.turn) _ _ (λ _. (half, few)) (λ _. (rw stays i.0, i.1))
     where
       inside : (p.place ≡ 0) ⊎ (p.place ≡ most_bytes) → p.place ≤ length room
       inside (inl e) = omega arith
       inside (inr e) = omega arith
 
-  taken_half : r.length ≤ most_bytes → (p : Pending) → InHalf p → Halved (taken room r s at p)
+  taken_half : r.length ≤ most_bytes → (p : Option Turned) → InHalf p → Halved (taken room r s at p)
   unfolding Halved taken after going
-  taken_half few Nobody i = (half, few)
-  taken_half few (Somebody p) i =
+  taken_half few None i = (half, few)
+  taken_half few (Some p) i =
       choose_case Halved _ _ _ (λ _. choose_case Halved _ _ _ (λ _. superseded_half p few i) (λ _. (half, few))) (λ _. h)
 
-  closed_half : (p : Pending) → Halved (closed room r s p)
+  closed_half : (p : Option Turned) → Halved (closed room r s p)
   unfolding Halved closed
-  closed_half Nobody = tt
-  closed_half (Somebody p) = tt
+  closed_half None = tt
+  closed_half (Some p) = tt
 
   half_at : (stage : Stage) → Halved (does_at room at bytes r s stage)
   unfolding Halved does_at sheet_taken

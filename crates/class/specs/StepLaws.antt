@@ -2,16 +2,15 @@
 -- where it stood.
 use Prim.Native.Nat.{ℕ, zero, suc, ◌+◌, ◌-◌}
 use mathlib.Core.List.{List, [], ◌∷◌, ◌++◌, append-nil, append_assoc}
-use Rattle.std.specs.Prelude.{◌≡◌}
+use Rattle.std.specs.Prelude.{◌≡◌, Ok, Err, Option, None, Some}
 use Rattle.std.proofs.Math.Path.{refl, ap, sym}
 use Rattle.std.proofs.Common.{◌∙◌, drop-drop}
 use native.Mathlib.Omega.{arith}
 use Rattle.std.proofs.Math.Nat.{add-zero}
 use Rattle.std.proofs.Math.ListN.{length, take, drop, length-take}
 use Rattle.std.proofs.Math.Seq.{length-take-le}
-use Rattle.number.specs.Number.{limit32}
-use Rattle.number.specs.declared.Reading.{Reading}
-use Rattle.number.specs.declared.Reading.TheVariants.{Value, CutShort, Bad as BadNumber}
+use Rattle.number.specs.Number.{limit32, Reading}
+use Rattle.number.specs.declared.Unread.TheVariants.{CutShort, Bad as BadNumber}
 use Rattle.number.specs.Fed.{start, fed, feeds}
 use Rattle.number.specs.FedLaws.{feeds_reads}
 use Rattle.number.specs.declared.reader.Reader.{Reader}
@@ -25,8 +24,6 @@ use Rattle.sheet_counts.specs.Answers.{counts_of}
 use Rattle.tally.specs.Raise.{raise}
 use Rattle.class.specs.declared.Report.{Report}
 use Rattle.class.specs.declared.Turned.{Turned}
-use Rattle.class.specs.declared.Pending.{Pending}
-use Rattle.class.specs.declared.Pending.TheVariants.{Nobody, Somebody}
 use Rattle.class.specs.declared.Stage.{Stage}
 use Rattle.class.specs.declared.Stage.TheVariants.{Head, Count, Learner, Turn, Length, Sheet, Line, Last, Nothing}
 use Rattle.turns.specs.MemoryPlaces.{drop-least}
@@ -40,7 +37,7 @@ use Rattle.class.specs.Steps.{pending_in, closed, superseded, after, taken, shee
 
 module _ (file : List ℕ) where
   -- with so many entries left, a pending sheet and a tally, the lines of those and the last line are printed
-  going-text : (at left : ℕ) (p : Pending) (t : Tally)
+  going-text : (at left : ℕ) (p : Option Turned) (t : Tally)
       → report_from file at (going left p t) ≡ entries_text file left at (pending_in file p) t
   unfolding report_from going entry_or_line entries_text
   going-text at zero p t = refl
@@ -60,9 +57,9 @@ module _ (file : List ℕ) where
 
   -- What a number's stage prints of what is read there: a stop, or what comes behind the number.
   record Reads (r : Report) (stage : Stage) (prints : Reading → List ℕ) : Type 0 where
-    cut : prints CutShort ≡ end_text (pending_in file r.pending) r.tally 3
-    bad : (n : ℕ) → prints (BadNumber n) ≡ end_text (pending_in file r.pending) r.tally 4
-    whole : (v n : ℕ) → report_from file n (valued r stage v) ≡ prints (Value v n)
+    cut : prints (Err CutShort) ≡ end_text (pending_in file r.pending) r.tally 3
+    bad : (n : ℕ) → prints (Err (BadNumber n)) ≡ end_text (pending_in file r.pending) r.tally 4
+    whole : (v n : ℕ) → report_from file n (valued r stage v) ≡ prints (Ok (v, n))
     more : (next : Reader) (n : ℕ)
         → report_from file n (numbered r stage (More next)) ≡ prints (feeds limit32 next (drop n file) n)
 
@@ -78,7 +75,7 @@ module _ (file : List ℕ) where
 
       go : (f : Fed)
           → report_from file (at + 1) (numbered r stage f)
-          ≡ prints (elim f [ More next ↦ feeds limit32 next bs (at + 1) | Whole v ↦ Value v (at + 1) | Bad ↦ BadNumber (at + 1) ])
+          ≡ prints (elim f [ More next ↦ feeds limit32 next bs (at + 1) | Whole v ↦ Ok (v, at + 1) | Bad ↦ Err (BadNumber (at + 1)) ])
       go (More next) = x.more next (at + 1) ∙ rw next-bytes refl
       go (Whole v) = x.whole v (at + 1)
       go Bad = stop_prints r 4 _ ∙ sym (x.bad (at + 1))
@@ -140,7 +137,7 @@ module _ (file : List ℕ) where
         ++ entries_text file (r.left - 1) next (kept pending e ∷ []) (raised_by r.tally (printed pending e)))
         (end_text pending r.tally 23)
 
-    after-prints : (s : Session) (at next : ℕ) (p : Turned) → r.pending ≡ Somebody p
+    after-prints : (s : Session) (at next : ℕ) (p : Turned) → r.pending ≡ Some p
         → Prints next (after file r s at p) (follow_text (entry_of file p ∷ []) (entry_of file (turned_in r at)) next)
     unfolding after follow_text learner_of printed kept entry_lines raised_by
     after-prints s at next p e = go (decide (p.learner ≼ r.learner)) (decide (p.learner ≐ r.learner))
@@ -149,32 +146,32 @@ module _ (file : List ℕ) where
             → Prints next (after file r s at p) (follow_text (entry_of file p ∷ []) (entry_of file (turned_in r at)) next)
         go (it_does_not n) _ =
             rw (fails (p.learner ≼ r.learner) n)
-            (stop_prints r 23 next ∙ ap (λ (q : Pending). end_text (pending_in file q) r.tally 23) e)
+            (stop_prints r 23 next ∙ ap (λ (q : Option Turned). end_text (pending_in file q) r.tally 23) e)
         go (it_does h) (it_does same) =
             rw (passes (p.learner ≼ r.learner) h, passes (p.learner ≐ r.learner) same)
-            (going-text next (r.left - 1) (Somebody (superseded file p (turned_in r at))) r.tally
+            (going-text next (r.left - 1) (Some (superseded file p (turned_in r at))) r.tally
             ∙ ap (λ (x : Entry). entries_text file (r.left - 1) next (x ∷ []) r.tally) (superseded-is p (turned_in r at)))
         go (it_does h) (it_does_not other) =
             let counts = counts_of (sheet_of file p) in
             let line = entry_line p.learner p.turn counts in
             rw (passes (p.learner ≼ r.learner) h, fails (p.learner ≐ r.learner) other)
-            (ap (λ (l : List ℕ). line ++ l) (going-text next (r.left - 1) (Somebody (turned_in r at)) (raise r.tally counts))
+            (ap (λ (l : List ℕ). line ++ l) (going-text next (r.left - 1) (Some (turned_in r at)) (raise r.tally counts))
             ∙ sym (append_assoc line [] _))
 
-    taken-prints : (s : Session) (at next : ℕ) (p : Pending) → r.pending ≡ p
+    taken-prints : (s : Session) (at next : ℕ) (p : Option Turned) → r.pending ≡ p
         → Prints next (taken file r s at p) (follow_text (pending_in file p) (entry_of file (turned_in r at)) next)
     unfolding taken follow_text learner_of printed kept entry_lines raised_by
-    taken-prints s at next Nobody e =
-        going-text next (r.left - 1) (Somebody (turned_in r at)) r.tally
+    taken-prints s at next None e =
+        going-text next (r.left - 1) (Some (turned_in r at)) r.tally
         ∙ sym (choose_yes (0 ≼ r.learner) _ (end_text [] r.tally 23) (omega arith))
-    taken-prints s at next (Somebody p) e = after-prints s at next p e
+    taken-prints s at next (Some p) e = after-prints s at next p e
 
     -- the pending sheet's line, if there is one, and the last line
-    closed-prints : (s : Session) (at : ℕ) (p : Pending)
+    closed-prints : (s : Session) (at : ℕ) (p : Option Turned)
         → Prints at (closed file r s p) (end_text (pending_in file p) r.tally r.stop)
     unfolding closed report_from end_text entry_lines raised_by
-    closed-prints s at Nobody = refl
-    closed-prints s at (Somebody p) = sym (append_assoc (entry_line p.learner p.turn (counts_of (sheet_of file p))) [] _)
+    closed-prints s at None = refl
+    closed-prints s at (Some p) = sym (append_assoc (entry_line p.learner p.turn (counts_of (sheet_of file p))) [] _)
 
     -- a sheet is taken if all of it is handed; else it is 22
     sheet_prints : Session → ℕ → List ℕ → Type 0

@@ -1,13 +1,15 @@
 -- What the code of a step tells.
-use Rattle.std.specs.Prelude.{ℕ, ◌≤◌, ◌<◌, ◌≡◌, length, get_or}
-use mathlib.Core.List.{List, [], ◌∷◌}
+use Rattle.std.specs.Prelude.{ℕ, ◌+◌, ◌≤◌, ◌<◌, ◌≡◌, ◌⊎◌, length, get_or, take, drop, Option, None, Some}
+use mathlib.Core.List.{List, [], ◌∷◌, ◌++◌, append_assoc}
 use Rattle.std.proofs.Math.Path.{refl, subst}
-use Rattle.std.proofs.Common.{ap, sym, ◌∙◌, arith}
-use Rattle.number.specs.Number.{limit32}
+use Rattle.std.proofs.Common.{ap, sym, ◌∙◌, arith, inl, inr, length-take-le, take-append-drop}
+use Rattle.std.proofs.lemmas.List.{drop-append-le}
+use Rattle.number.specs.Number.{limit32, splice}
 use Rattle.number.specs.Fed.{fed}
 use Rattle.number.specs.declared.reader.Fed.{Fed}
 use Rattle.session.specs.Table.{Session, Wrote, read, words}
 use Rattle.session.specs.TableLaws.{wrote_none}
+use Rattle.session.specs.First.{read_first, read_front, wrote_first}
 use Rattle.session.specs.Fresh.{fresh_session}
 use Rattle.rules.specs.Formula.{Holds}
 use Rattle.rules.specs.FormulaLaws.{choose_case}
@@ -23,13 +25,11 @@ use Rattle.class.specs.declared.Report.{Report}
 use Rattle.class.specs.declared.Stage.{Stage}
 use Rattle.class.specs.declared.Stage.TheVariants.{Head, Count, Learner, Turn, Length, Sheet, Line, Last, Nothing}
 use Rattle.class.specs.declared.Turned.{Turned}
-use Rattle.class.specs.declared.Pending.{Pending}
-use Rattle.class.specs.declared.Pending.TheVariants.{Nobody, Somebody}
 use Rattle.class.specs.declared.Step.{Step}
 use Rattle.class.specs.declared.steps.Shown.{Shown}
 use Rattle.class_rules.specs.Report.{entry_line}
 use Rattle.class.specs.Steps.{stopping, numbered, byte, Did, did, sheet_of, ran, closed, after, taken, sheet_taken, does_at}
-use Rattle.class.specs.Steps.{does}
+use Rattle.class.specs.Steps.{valued, asks_at, does}
 
 -- what a step asks of the memories lent to it: a kept session, and room for a line
 abbrev pub Lent : List ℕ → List ℕ → Type 0
@@ -90,15 +90,15 @@ module _ (room : List ℕ) (at : ℕ) (bytes : List ℕ) (r : Report) (s : Sessi
   Keeps : Did → Type 0
   Keeps d = Holds (kept d.session)
 
-  closed_keeps : (p : Pending) → Keeps (closed room r s p)
+  closed_keeps : (p : Option Turned) → Keeps (closed room r s p)
   unfolding Keeps closed
-  closed_keeps Nobody = k
-  closed_keeps (Somebody p) = sheet_kept room p
+  closed_keeps None = k
+  closed_keeps (Some p) = sheet_kept room p
 
-  taken_keeps : (p : Pending) → Keeps (taken room r s at p)
+  taken_keeps : (p : Option Turned) → Keeps (taken room r s at p)
   unfolding Keeps taken after
-  taken_keeps Nobody = k
-  taken_keeps (Somebody p) =
+  taken_keeps None = k
+  taken_keeps (Some p) =
       choose_case Keeps _ _ _ (λ _. choose_case Keeps _ _ _ (λ _. k) (λ _. sheet_kept room p)) (λ _. k)
 
   step_keeps : (stage : Stage) → Keeps (does_at room at bytes r s stage)
@@ -124,7 +124,50 @@ module _ (r : Report) (room : List ℕ) (at : ℕ) (bytes before after lines lin
     keeps = rw m.session.reading (step_keeps room at bytes r (read before) k stage);
   }
 
--- a step that takes a byte of a number
+-- The stages in which a byte of a number is asked for and taken, and those in which nothing is asked for.
+abbrev pub InNumber : Stage → Type 0
+InNumber stage = (stage ≡ Count) ⊎ ((stage ≡ Learner) ⊎ ((stage ≡ Turn) ⊎ (stage ≡ Length)))
+
+abbrev pub InLine : Stage → Type 0
+InLine stage = (stage ≡ Head) ⊎ ((stage ≡ Line) ⊎ ((stage ≡ Last) ⊎ (stage ≡ Nothing)))
+
+pub asks_byte : (r : Report) (stage : Stage) → InNumber stage → 1 ≡ asks_at r stage
+unfolding asks_at
+asks_byte r stage (inl e) = ap (asks_at r) (sym e)
+asks_byte r stage (inr (inl e)) = ap (asks_at r) (sym e)
+asks_byte r stage (inr (inr (inl e))) = ap (asks_at r) (sym e)
+asks_byte r stage (inr (inr (inr e))) = ap (asks_at r) (sym e)
+
+pub asks_nothing : (r : Report) (stage : Stage) → InLine stage → 0 ≡ asks_at r stage
+unfolding asks_at
+asks_nothing r stage (inl e) = ap (asks_at r) (sym e)
+asks_nothing r stage (inr (inl e)) = ap (asks_at r) (sym e)
+asks_nothing r stage (inr (inr (inl e))) = ap (asks_at r) (sym e)
+asks_nothing r stage (inr (inr (inr e))) = ap (asks_at r) (sym e)
+
+-- in another stage than these no number is read
+pub valued_same : (r : Report) (stage : Stage) (v : ℕ) → (stage ≡ Count → ⊥) → (stage ≡ Learner → ⊥) → (stage ≡ Turn → ⊥)
+    → (stage ≡ Length → ⊥) → r ≡ valued r stage v
+unfolding valued
+valued_same r Head v a b c d = refl
+valued_same r Count v a b c d = absurd (a refl)
+valued_same r Learner v a b c d = absurd (b refl)
+valued_same r Turn v a b c d = absurd (c refl)
+valued_same r Length v a b c d = absurd (d refl)
+valued_same r Sheet v a b c d = refl
+valued_same r Line v a b c d = refl
+valued_same r Last v a b c d = refl
+valued_same r Nothing v a b c d = refl
+
+does_byte : (room : List ℕ) (at : ℕ) (bytes : List ℕ) (r : Report) (s : Session) (stage : Stage) → InNumber stage
+    → does_at room at bytes r s stage ≡ did (byte r stage bytes) [] s
+unfolding does_at
+does_byte room at bytes r s stage (inl e) = rw e refl
+does_byte room at bytes r s stage (inr (inl e)) = rw e refl
+does_byte room at bytes r s stage (inr (inr (inl e))) = rw e refl
+does_byte room at bytes r s stage (inr (inr (inr e))) = rw e refl
+
+-- a step that takes a byte
 module _ (r : Report) (room : List ℕ) (at : ℕ) (bytes memory lines : List ℕ) (x : Step) (stage : Stage) (e : r.stage ≡ stage)
     (k : Holds (kept (read memory))) where
   pub took_byte : does_at room at bytes r (read memory) stage ≡ did (byte r stage bytes) [] (read memory)
@@ -133,6 +176,46 @@ module _ (r : Report) (room : List ℕ) (at : ℕ) (bytes memory lines : List �
   took_byte is told none =
       took_at r room at bytes memory memory lines lines x stage e k
       (moved_as is (moved_still memory lines x (byte r stage bytes) (told ∙ ap (λ (st : Stage). byte r st bytes) e) none))
+
+-- a step that takes a byte of a number
+module _ (r : Report) (room : List ℕ) (at : ℕ) (bytes memory lines : List ℕ) (x : Step) (n : InNumber r.stage)
+    (k : Holds (kept (read memory))) where
+  pub took_number : x.report ≡ byte r r.stage bytes → x.used ≡ 0 → Took r room at bytes memory memory lines lines x
+  took_number told none =
+      took_at r room at bytes memory memory lines lines x r.stage refl k
+      (moved_as (does_byte room at bytes r (read memory) r.stage n) (moved_still memory lines x (byte r r.stage bytes) told none))
+
+-- Bytes put into the first of a memory are put into the memory.
+put_first : (lines line' : List ℕ) (n : ℕ) (text : List ℕ) (used : ℕ) → n ≤ length lines → used ≤ n
+    → Put (take n lines) 0 text used line' → Put lines 0 text used (line' ++ drop n lines)
+unfolding splice
+put_first lines line' n text used h k p =
+    let few : length text ≤ length (take n lines) = omega (arith, p.place, length-take-le n lines h) in
+    record {
+      place = p.place;
+      written =
+          ap (λ (l : List ℕ). l ++ drop n lines) p.written
+          ∙ append_assoc text (drop (0 + length text) (take n lines)) (drop n lines)
+          ∙ ap (λ (l : List ℕ). text ++ l)
+          (sym (drop-append-le (0 + length text) (take n lines) (drop n lines) (omega arith))
+          ∙ ap (drop (0 + length text)) (take-append-drop n lines));
+    }
+
+-- A step on the first words and bytes of the memories is one on them.
+module _ (r : Report) (room : List ℕ) (at : ℕ) (bytes before after lines line' : List ℕ) (x : Step) where
+  pub took_first : words ≤ length before → 128 ≤ length lines → Took r room at bytes (take words before) after (take 128 lines) line' x
+      → Took r room at bytes before (after ++ drop words before) lines (line' ++ drop 128 lines) x
+  took_first h k t =
+      let m : Moved (take words before) after (take 128 lines) line' x (does room at bytes r (read before)) =
+      rw (read_first before) at t.moved in
+      let long : length after ≡ words = m.session.same_length ∙ length-take-le words before h in
+      record {
+        moved = record {
+          told = record { report = m.told.report; line = put_first lines line' 128 _ _ k m.told.short m.told.line; short = m.told.short };
+          session = wrote_first before after _ h m.session;
+        };
+        keeps = rw (read_front after (drop words before) long) t.keeps;
+      }
 
 -- a number's stage without a byte, and with one
 module _ (r : Report) (stage : Stage) where

@@ -1,7 +1,7 @@
 -- A report step by step: it asks for some bytes of the class file, is handed those or, at the
 -- file's end, fewer, and prints at most one line. A sheet stays pending until an entry of another
 -- learner comes, a stop or the end. So a file of any length is reported from memory for two sheets.
-use Rattle.std.specs.Prelude.{ℕ, zero, suc, ◌-◌, Bool, true, false, List, [], ◌∷◌, ◌≡◌, refl, T, length, take, drop}
+use Rattle.std.specs.Prelude.{ℕ, zero, suc, ◌-◌, Bool, true, false, List, [], ◌∷◌, ◌≡◌, refl, T, length, take, drop, Option, None, Some}
 use Rattle.std.proofs.Common.{ap, sym, subst, ◌∙◌}
 use Rattle.number.specs.Number.{limit32}
 use Rattle.number.specs.Fed.{start, fed}
@@ -19,8 +19,6 @@ use Rattle.class.specs.declared.Report.{Report}
 use Rattle.class.specs.declared.Stage.{Stage}
 use Rattle.class.specs.declared.Stage.TheVariants.{Head, Count, Learner, Turn, Length, Sheet, Line, Last, Nothing}
 use Rattle.class.specs.declared.Turned.{Turned}
-use Rattle.class.specs.declared.Pending.{Pending}
-use Rattle.class.specs.declared.Pending.TheVariants.{Nobody, Somebody}
 use Rattle.turns.specs.MemoryPlaces.{least}
 use Rattle.class_rules.specs.Report.{Entry, most_bytes, fits, sheet_at, head, entry_line, last_line}
 
@@ -35,7 +33,7 @@ begun =
       turn = 0;
       length = 0;
       stop = 0;
-      pending = Nobody;
+      pending = None;
       tally = no_counts;
     }
 
@@ -88,6 +86,18 @@ pub not-over : (stage : Stage) → is_over stage ≡ false → stage ≡ Nothing
 unfolding is_over
 not-over stage e n = unlike (sym e ∙ ap is_over n)
 
+pub over-not : (stage : Stage) → (stage ≡ Nothing → ⊥) → is_over stage ≡ false
+unfolding is_over
+over-not Head n = refl
+over-not Count n = refl
+over-not Learner n = refl
+over-not Turn n = refl
+over-not Length n = refl
+over-not Sheet n = refl
+over-not Line n = refl
+over-not Last n = refl
+over-not Nothing n = absurd (n refl)
+
 -- A stop: the line of the pending sheet comes next, and then the stop's.
 abbrev pub stopping : Report → ℕ → Report
 stopping r n = record {
@@ -117,7 +127,7 @@ entry_next zero n = absurd (n refl)
 entry_next (suc left) n = refl
 
 -- A report with so many entries left, a pending sheet and a tally; of the next entry nothing is read.
-unfoldable pub going : ℕ → Pending → Tally → Report
+unfoldable pub going : ℕ → Option Turned → Tally → Report
 going left pending tally = record {
   stage = entry_or_line left;
   number = start;
@@ -189,13 +199,13 @@ closing r t = record {
   turn = r.turn;
   length = r.length;
   stop = r.stop;
-  pending = Nobody;
+  pending = None;
   tally = t;
 }
 
 -- The report with this entry's sheet pending.
 abbrev pub holding : Report → ℕ → Tally → Report
-holding r at t = going (r.left - 1) (Somebody (turned_in r at)) t
+holding r at t = going (r.left - 1) (Some (turned_in r at)) t
 
 -- A sheet that lies in a memory, the entry that it is, and the pending one as a list of one or of none.
 module _ (room : List ℕ) where
@@ -205,9 +215,9 @@ module _ (room : List ℕ) where
   abbrev pub entry_of : Turned → Entry
   entry_of p = record { learner = p.learner; turn = p.turn; sheet = sheet_of p }
 
-  abbrev pub pending_in : Pending → List Entry
-  pending_in Nobody = []
-  pending_in (Somebody p) = entry_of p ∷ []
+  abbrev pub pending_in : Option Turned → List Entry
+  pending_in None = []
+  pending_in (Some p) = entry_of p ∷ []
 
   -- A sheet is run: its line is printed, the tally is raised, and the session is what it leaves.
   abbrev pub ran : Turned → (Tally → Report) → Tally → Did
@@ -216,9 +226,9 @@ module _ (room : List ℕ) where
       did (next (raise t counts)) (entry_line p.learner p.turn counts) (print_sheet (sheet_of p) fresh_session).session
 
   -- The line of the pending sheet, if there is one.
-  unfoldable pub closed : Report → Session → Pending → Did
-  closed r s Nobody = did (closing r r.tally) [] s
-  closed r s (Somebody p) = ran p (closing r) r.tally
+  unfoldable pub closed : Report → Session → Option Turned → Did
+  closed r s None = did (closing r r.tally) [] s
+  closed r s (Some p) = ran p (closing r) r.tally
 
   -- Of two sheets of one learner, the pending one and a later entry's, the one that supersedes.
   unfoldable pub superseded : Turned → Turned → Turned
@@ -231,13 +241,13 @@ module _ (room : List ℕ) where
   after r s at p =
       choose (p.learner ≼ r.learner)
       (choose (p.learner ≐ r.learner)
-      (did (going (r.left - 1) (Somebody (superseded p (turned_in r at))) r.tally) [] s)
+      (did (going (r.left - 1) (Some (superseded p (turned_in r at))) r.tally) [] s)
       (ran p (holding r at) r.tally))
       (did (stopping r 23) [] s)
 
-  unfoldable pub taken : Report → Session → ℕ → Pending → Did
-  taken r s at Nobody = did (holding r at r.tally) [] s
-  taken r s at (Somebody p) = after r s at p
+  unfoldable pub taken : Report → Session → ℕ → Option Turned → Did
+  taken r s at None = did (holding r at r.tally) [] s
+  taken r s at (Some p) = after r s at p
 
   -- A sheet, if all of it was handed.
   unfoldable pub sheet_taken : Report → Session → ℕ → List ℕ → Did

@@ -1,9 +1,8 @@
 -- What is still printed from where a report stands: the report by one pass with a pending entry, with the sums as the tally has
 -- them and the numbers as the byte-fed reader reads them.
 use Rattle.std.specs.Prelude.{ℕ, zero, suc, ◌+◌, ◌-◌, List, [], ◌∷◌, ◌++◌, drop}
-use Rattle.number.specs.Number.{limit32, read_at}
+use Rattle.number.specs.Number.{limit32, read_at, Reading}
 use Rattle.number.specs.Fed.{feeds}
-use Rattle.number.specs.declared.Reading.{Reading}
 use Rattle.rules.specs.Formula.{choose, Formula.◌≼◌}
 use Rattle.sheet_counts.specs.declared.Tally.{Tally}
 use Rattle.class.specs.declared.Report.{Report}

@@ -14,6 +14,9 @@ pub use steps::{MOST, asks, begin, go_on, is_over, supersede, take, with_entry};
 // How many bytes must be free before a line is written.
 pub const ROOM: usize = 128;
 
+// The memory of a line.
+type Line = [u8; ROOM];
+
 // The longest sheet.
 pub const MOST_BYTES: usize = 32768;
 
@@ -21,8 +24,8 @@ pub const MOST_BYTES: usize = 32768;
 pub const TWO_SHEETS: usize = 65536;
 
 // What a report prints or reads next: its head, the number of sheets, an entry's learner, turn and length, its sheet, the line of
-// the pending sheet, the last line; or nothing.
-#[derive(Clone, Copy)]
+// the pending sheet, the last line; or nothing. They stand in the order of their codes (`class_words`).
+#[derive(Clone, Copy, Debug, PartialEq, Eq)]
 pub enum Stage {
     Head,
     Count,
@@ -30,13 +33,13 @@ pub enum Stage {
     Turn,
     Length,
     Sheet,
-    Line,
     Last,
     Nothing,
+    Line,
 }
 
 // A sheet that was turned in: whose it is, and where its bytes lie.
-#[derive(Clone, Copy)]
+#[derive(Clone, Copy, Debug, PartialEq, Eq)]
 pub struct Turned {
     pub learner: u64,
     pub turn: u64,
@@ -44,16 +47,11 @@ pub struct Turned {
     pub length: u64,
 }
 
-// Whose sheet is pending: it counts for its learner unless a later entry supersedes it.
-#[derive(Clone, Copy)]
-pub enum Pending {
-    Nobody,
-    Somebody(Turned),
-}
-
 // Where a report stands: what comes next, the number that is being read, how many entries are left with this one, what was read
-// of this one, the number of a stop or 0, the pending sheet, and the tally of those printed.
-#[derive(Clone, Copy)]
+// of this one, the number of a stop or 0, the pending sheet, which counts for its learner unless a later entry supersedes it, and
+// the tally of those printed. The stop is a number and no refusal: any may stand in the words of a report that C hands back
+// (`class_words`: `Reports`).
+#[derive(Clone, Copy, Debug, PartialEq, Eq)]
 pub struct Report {
     pub stage: Stage,
     pub number: Reader,
@@ -62,12 +60,12 @@ pub struct Report {
     pub turn: u64,
     pub length: u64,
     pub stop: u64,
-    pub pending: Pending,
+    pub pending: Option<Turned>,
     pub tally: Tally,
 }
 
 // What a step leaves: where the report stands then, and the length of what it printed.
-#[derive(Clone, Copy)]
+#[derive(Clone, Copy, Debug, PartialEq, Eq)]
 pub struct Step {
     pub report: Report,
     pub used: usize,

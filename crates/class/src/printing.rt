@@ -1,16 +1,17 @@
-// The lines of a report. Internal: callers have shown that there is room.
+// The lines of a report.
 ghost use Rattle.std.specs.Prelude.{◌+◌, ◌≤◌, length};
 ghost use Rattle.lines.specs.Line.{marked};
 ghost use Rattle.text.specs.Put.{Put};
 ghost use Rattle.class_rules.specs.Report.{head, counts_line, entry_line, stop_line, last_line};
 
+use crate::Line;
 use lines::{NEWLINE, SPACE};
 use sheet_counts::Tally;
 use text::write_bytes;
 
 // Writes a number and a mark behind it: at most twenty digits.
-fn write_number(v: u64, mark: u8, out: &mut [u8], at: usize) -> usize
-    requires { at + 21 ≤ length out.old }
+fn write_number(v: u64, mark: u8, out: &mut Line, at: usize) -> usize
+    requires { at + 21 ≤ 128 }
     ensures put { Put out.old at (marked v mark) result out.new }
     ensures most { (length (marked v mark) ≤ 21) × (result ≤ at + 21) }
 {
@@ -18,8 +19,7 @@ fn write_number(v: u64, mark: u8, out: &mut [u8], at: usize) -> usize
 }
 
 // Writes the report's head.
-pub fn write_head(out: &mut [u8]) -> usize
-    requires { 128 ≤ length out.old }
+pub fn write_head(out: &mut Line) -> usize
     ensures put { Put out.old 0 head result out.new }
     ensures most { result ≤ 128 }
 {
@@ -27,8 +27,8 @@ pub fn write_head(out: &mut [u8]) -> usize
 }
 
 // Writes four counts and the end of the line.
-pub fn write_counts(t: Tally, out: &mut [u8], at: usize) -> usize
-    requires { at + 84 ≤ length out.old }
+pub fn write_counts(t: Tally, out: &mut Line, at: usize) -> usize
+    requires { at + 84 ≤ 128 }
     ensures put { Put out.old at (counts_line t) result out.new }
     ensures most { result ≤ at + 84 }
 {
@@ -39,8 +39,7 @@ pub fn write_counts(t: Tally, out: &mut [u8], at: usize) -> usize
 }
 
 // Writes the line of a sheet.
-pub fn write_entry(learner: u64, turn: u64, t: Tally, out: &mut [u8]) -> usize
-    requires { 128 ≤ length out.old }
+pub fn write_entry(learner: u64, turn: u64, t: Tally, out: &mut Line) -> usize
     ensures put { Put out.old 0 (entry_line learner turn t) result out.new }
     ensures most { result ≤ 128 }
 {
@@ -50,8 +49,7 @@ pub fn write_entry(learner: u64, turn: u64, t: Tally, out: &mut [u8]) -> usize
 }
 
 // Writes the line of a stop.
-fn write_stop(n: u64, out: &mut [u8]) -> usize
-    requires { 128 ≤ length out.old }
+fn write_stop(n: u64, out: &mut Line) -> usize
     ensures put { Put out.old 0 (stop_line n) result out.new }
     ensures most { result ≤ 128 }
 {
@@ -60,8 +58,7 @@ fn write_stop(n: u64, out: &mut [u8]) -> usize
 }
 
 // Writes the last line: the sums, or a stop in their place.
-pub fn write_last(t: Tally, stop: u64, out: &mut [u8]) -> usize
-    requires { 128 ≤ length out.old }
+pub fn write_last(t: Tally, stop: u64, out: &mut Line) -> usize
     ensures put { Put out.old 0 (last_line t stop) result out.new }
     ensures most { result ≤ 128 }
 {

@@ -1,24 +1,24 @@
-// The steps of a report.
-ghost use Rattle.std.specs.Prelude.{◌≤◌, ◌-◌, ◌≡◌, length, take, drop};
+// The steps of a report. The memories are parameters of each, and so is the place in `room` with the fact that it lies there: a struct of
+// borrowed memories would be made for each call and taken apart in it, which is no plainer.
+ghost use Rattle.std.specs.Prelude.{◌≤◌, ◌-◌, ◌≡◌, Some, length, take, drop};
 ghost use Rattle.session.specs.Lent.{was};
-ghost use Rattle.rules.specs.Formula.{choose, Formula.◌≼◌};
+ghost use Rattle.session.specs.Table.{read};
+ghost use Rattle.rules.specs.Formula.{choose, Holds, Formula.◌≼◌};
+ghost use Rattle.rules.specs.Sound.{kept};
+ghost use Rattle.rules.specs.Refusals.{number};
 ghost use Rattle.class_rules.specs.Report.{most_bytes, head, last_line};
 ghost use Rattle.class.specs.Steps.{begun, is_over, asks, fed_to, turned, stopping, entry_to, entry_or_line, going, valued};
 ghost use Rattle.class.specs.Steps.{byte, turned_in, closing, closed, holding, superseded, after, taken, sheet_taken};
 ghost use Rattle.class.specs.Stepped.{Lent, Told, Moved, Ran, Took};
 
-use crate::{MOST_BYTES, Pending, Report, Stage, Step, Turned, printing};
+use crate::{Line, MOST_BYTES, ROOM, Report, Stage, Step, Turned, printing};
 use number::{Fed, LIMIT_32, Reader};
-use rules::refusals;
+use rules::Refusal;
+use session::{Memory, WORDS};
 use sheet_counts::Tally;
 
 // The longest sheet, as lengths are read.
 pub const MOST: u64 = MOST_BYTES as u64;
-
-// The refusal of a length, and of a learner lower than the one before.
-const TOO_LONG: u64 = 22;
-
-const LOWER_LEARNER: u64 = 23;
 
 // A report that has printed and read nothing.
 pub fn begin() -> Report
@@ -32,7 +32,7 @@ pub fn begin() -> Report
         turn: 0,
         length: 0,
         stop: 0,
-        pending: Pending::Nobody,
+        pending: None,
         tally: sheet_counts::empty(),
     }
 }
@@ -42,17 +42,10 @@ pub fn asks(report: Report) -> usize
     ensures told { result ≡ asks report }
     ensures most { result ≤ 32768 }
 {
-    let stage = report.stage;
-    match stage {
-        Stage::Count => 1,
-        Stage::Learner => 1,
-        Stage::Turn => 1,
-        Stage::Length => 1,
+    match report.stage {
+        Stage::Count | Stage::Learner | Stage::Turn | Stage::Length => 1,
         Stage::Sheet => asks_sheet(report.length),
-        Stage::Head => 0,
-        Stage::Line => 0,
-        Stage::Last => 0,
-        Stage::Nothing => 0,
+        Stage::Head | Stage::Line | Stage::Last | Stage::Nothing => 0,
     }
 }
 
@@ -60,18 +53,7 @@ pub fn asks(report: Report) -> usize
 pub fn is_over(report: Report) -> bool
     ensures { result ≡ is_over report.stage }
 {
-    let stage = report.stage;
-    match stage {
-        Stage::Nothing => true,
-        Stage::Head => false,
-        Stage::Count => false,
-        Stage::Learner => false,
-        Stage::Turn => false,
-        Stage::Length => false,
-        Stage::Sheet => false,
-        Stage::Line => false,
-        Stage::Last => false,
-    }
+    matches!(report.stage, Stage::Nothing)
 }
 
 fn asks_sheet(length: u64) -> usize
@@ -88,57 +70,35 @@ fn asks_sheet(length: u64) -> usize
 fn at_stage(report: Report, stage: Stage, number: Reader) -> Report
     ensures { result ≡ fed_to report stage number }
 {
-    let pending = report.pending;
-    let tally = report.tally;
     Report {
         stage,
         number,
-        left: report.left,
-        learner: report.learner,
-        turn: report.turn,
-        length: report.length,
-        stop: report.stop,
-        pending,
-        tally,
+        ..report
     }
 }
 
 // A report that stops: the line of the pending sheet comes first.
-fn stopped(report: Report, n: u64) -> Report
-    ensures { result ≡ stopping report n }
+fn stopped(report: Report, refusal: Refusal) -> Report
+    ensures { result ≡ stopping report (number refusal) }
 {
-    let number = number::start();
-    let pending = report.pending;
-    let tally = report.tally;
     Report {
         stage: Stage::Line,
-        number,
-        left: report.left,
-        learner: report.learner,
-        turn: report.turn,
-        length: report.length,
-        stop: n,
-        pending,
-        tally,
+        number: number::start(),
+        stop: u64::from(refusal),
+        ..report
     }
 }
 
 // A report with so many entries left, a pending sheet and a tally; of the next entry nothing is read.
-pub fn go_on(left: u64, pending: Pending, tally: Tally) -> Report
+pub fn go_on(left: u64, pending: Option<Turned>, tally: Tally) -> Report
     ensures { result ≡ going left pending tally }
 {
-    let stage = entry_or_line(left);
-    let number = number::start();
     Report {
-        stage,
-        number,
+        stage: entry_or_line(left),
         left,
-        learner: 0,
-        turn: 0,
-        length: 0,
-        stop: 0,
         pending,
         tally,
+        ..begin()
     }
 }
 
@@ -155,19 +115,13 @@ fn entry_or_line(left: u64) -> Stage
 pub fn with_entry(report: Report, stage: Stage, learner: u64, turn: u64, length: u64) -> Report
     ensures { result ≡ entry_to report stage learner turn length }
 {
-    let number = number::start();
-    let pending = report.pending;
-    let tally = report.tally;
     Report {
         stage,
-        number,
-        left: report.left,
+        number: number::start(),
         learner,
         turn,
         length,
-        stop: report.stop,
-        pending,
-        tally,
+        ..report
     }
 }
 
@@ -175,19 +129,12 @@ pub fn with_entry(report: Report, stage: Stage, learner: u64, turn: u64, length:
 fn with_value(report: Report, v: u64) -> Report
     ensures { result ≡ valued report report.stage v }
 {
-    let stage = report.stage;
-    let pending = report.pending;
-    let tally = report.tally;
-    match stage {
-        Stage::Count => go_on(v, pending, tally),
+    match report.stage {
+        Stage::Count => go_on(v, report.pending, report.tally),
         Stage::Learner => with_entry(report, Stage::Turn, v, report.turn, report.length),
         Stage::Turn => with_entry(report, Stage::Length, report.learner, v, report.length),
         Stage::Length => with_entry(report, Stage::Sheet, report.learner, report.turn, v),
-        Stage::Head => report,
-        Stage::Sheet => report,
-        Stage::Line => report,
-        Stage::Last => report,
-        Stage::Nothing => report,
+        _ => report,
     }
 }
 
@@ -195,15 +142,13 @@ fn with_value(report: Report, v: u64) -> Report
 fn take_byte(report: Report, bytes: &[u8]) -> Report
     ensures { result ≡ byte report report.stage bytes.now }
 {
-    if bytes.len() == 0 {
-        return stopped(report, refusals::CUT_SHORT);
-    }
-    let number = report.number;
-    let stage = report.stage;
-    match number::feed(number, bytes[0], LIMIT_32) {
-        Fed::More(next) => at_stage(report, stage, next),
+    let [first, ..] = bytes else {
+        return stopped(report, Refusal::CutShort);
+    };
+    match number::feed(report.number, *first, LIMIT_32) {
+        Fed::More(next) => at_stage(report, report.stage, next),
         Fed::Whole(v) => with_value(report, v),
-        Fed::Bad => stopped(report, refusals::BAD_NUMBER),
+        Fed::Bad => stopped(report, Refusal::BadNumber),
     }
 }
 
@@ -214,17 +159,8 @@ fn silent(report: Report) -> Step
     Step { report, used: 0 }
 }
 
-fn one_less(left: u64) -> u64
-    ensures { result ≡ left - 1 }
-{
-    if left == 0 {
-        return 0;
-    }
-    left - 1
-}
-
 // What the run of a pending sheet leaves: the tally, and the length of its line.
-#[derive(Clone, Copy)]
+#[derive(Clone, Copy, Debug, PartialEq, Eq)]
 pub struct Shown {
     pub tally: Tally,
     pub used: usize,
@@ -235,17 +171,17 @@ fn run_sheet(
     sheet: Turned,
     room: &[u8],
     tally: Tally,
-    memory: &mut [u64],
-    lines: &mut [u8],
+    memory: &mut Memory,
+    line: &mut Line,
 ) -> Shown
-    requires { Lent memory.old lines.old }
-    ensures { Ran room.now sheet tally memory.old memory.new lines.old lines.new result }
+    requires { Holds (kept (read memory.old)) }
+    ensures { Ran room.now sheet tally memory.old memory.new line.old line.new result }
 {
     let bytes = turns::sheet_in(room, sheet.place, sheet.length);
     let ran = tally::run_with(bytes, memory, tally);
     let counts = ran.counts;
     let raised = ran.tally;
-    let used = printing::write_entry(sheet.learner, sheet.turn, counts, lines);
+    let used = printing::write_entry(sheet.learner, sheet.turn, counts, line);
     Shown {
         tally: raised,
         used,
@@ -256,39 +192,27 @@ fn run_sheet(
 fn close(report: Report, tally: Tally) -> Report
     ensures { result ≡ closing report tally }
 {
-    let number = number::start();
     Report {
         stage: Stage::Last,
-        number,
-        left: report.left,
-        learner: report.learner,
-        turn: report.turn,
-        length: report.length,
-        stop: report.stop,
-        pending: Pending::Nobody,
+        number: number::start(),
+        pending: None,
         tally,
+        ..report
     }
 }
 
 // Prints the line of the pending sheet, if there is one.
-fn print_pending(report: Report, room: &[u8], memory: &mut [u64], lines: &mut [u8]) -> Step
-    requires { Lent memory.old lines.old }
-    ensures { Moved memory.old memory.new lines.old lines.new result
+fn print_pending(report: Report, room: &[u8], memory: &mut Memory, line: &mut Line) -> Step
+    requires { Holds (kept (read memory.old)) }
+    ensures { Moved memory.old memory.new line.old line.new result
         (closed room.now report (was memory.old) report.pending) }
 {
-    let pending = report.pending;
-    match pending {
-        Pending::Nobody => {
-            let tally = report.tally;
-            silent(close(report, tally))
-        }
-        Pending::Somebody(sheet) => {
-            let tally = report.tally;
-            let shown = run_sheet(sheet, room, tally, memory, lines);
-            let raised = shown.tally;
-            let next = close(report, raised);
+    match report.pending {
+        None => silent(close(report, report.tally)),
+        Some(sheet) => {
+            let shown = run_sheet(sheet, room, report.tally, memory, line);
             Step {
-                report: next,
+                report: close(report, shown.tally),
                 used: shown.used,
             }
         }
@@ -311,9 +235,11 @@ fn turned_in(report: Report, place: usize) -> Turned
 fn hold(report: Report, place: usize, tally: Tally) -> Report
     ensures { result ≡ holding report place tally }
 {
-    let left = one_less(report.left);
-    let sheet = turned_in(report, place);
-    go_on(left, Pending::Somebody(sheet), tally)
+    go_on(
+        report.left.saturating_sub(1),
+        Some(turned_in(report, place)),
+        tally,
+    )
 }
 
 // The one that supersedes, of the pending sheet and a later entry's. Internal: the later one's place lies in the memory.
@@ -323,30 +249,18 @@ pub fn supersede(room: &[u8], sheet: Turned, later: Turned) -> Turned
 {
     let place = turns::superseding_place(room, sheet.place, sheet.turn, later.place, later.turn);
     if sheet.turn <= later.turn {
-        return Turned {
-            learner: later.learner,
-            turn: later.turn,
-            place,
-            length: later.length,
-        };
+        return Turned { place, ..later };
     }
-    Turned {
-        learner: sheet.learner,
-        turn: sheet.turn,
-        place,
-        length: sheet.length,
-    }
+    Turned { place, ..sheet }
 }
 
 // The report with the one that supersedes pending.
 fn hold_later(report: Report, room: &[u8], place: usize, sheet: Turned) -> Report
     requires { place ≤ length room.now }
-    ensures { result ≡ going (report.left - 1) (Pending.Somebody (superseded room.now sheet (turned_in report place))) report.tally }
+    ensures { result ≡ going (report.left - 1) (Some (superseded room.now sheet (turned_in report place))) report.tally }
 {
-    let left = one_less(report.left);
     let later = supersede(room, sheet, turned_in(report, place));
-    let tally = report.tally;
-    go_on(left, Pending::Somebody(later), tally)
+    go_on(report.left.saturating_sub(1), Some(later), report.tally)
 }
 
 // Takes an entry's sheet where somebody is pending.
@@ -355,26 +269,23 @@ fn take_after(
     room: &[u8],
     place: usize,
     sheet: Turned,
-    memory: &mut [u64],
-    lines: &mut [u8],
+    memory: &mut Memory,
+    line: &mut Line,
 ) -> Step
-    requires lent { Lent memory.old lines.old }
+    requires kept { Holds (kept (read memory.old)) }
     requires place_in_bounds { place ≤ length room.now }
-    ensures { Moved memory.old memory.new lines.old lines.new result
+    ensures { Moved memory.old memory.new line.old line.new result
         (after room.now report (was memory.old) place sheet) }
 {
     if report.learner < sheet.learner {
-        return silent(stopped(report, LOWER_LEARNER));
+        return silent(stopped(report, Refusal::LowerLearner));
     }
     if report.learner == sheet.learner {
         return silent(hold_later(report, room, place, sheet));
     }
-    let tally = report.tally;
-    let shown = run_sheet(sheet, room, tally, memory, lines);
-    let raised = shown.tally;
-    let next = hold(report, place, raised);
+    let shown = run_sheet(sheet, room, report.tally, memory, line);
     Step {
-        report: next,
+        report: hold(report, place, shown.tally),
         used: shown.used,
     }
 }
@@ -384,21 +295,17 @@ fn take_whole(
     report: Report,
     room: &[u8],
     place: usize,
-    memory: &mut [u64],
-    lines: &mut [u8],
+    memory: &mut Memory,
+    line: &mut Line,
 ) -> Step
-    requires lent { Lent memory.old lines.old }
+    requires kept { Holds (kept (read memory.old)) }
     requires place_in_bounds { place ≤ length room.now }
-    ensures { Moved memory.old memory.new lines.old lines.new result
+    ensures { Moved memory.old memory.new line.old line.new result
         (taken room.now report (was memory.old) place report.pending) }
 {
-    let pending = report.pending;
-    match pending {
-        Pending::Nobody => {
-            let tally = report.tally;
-            silent(hold(report, place, tally))
-        }
-        Pending::Somebody(sheet) => take_after(report, room, place, sheet, memory, lines),
+    match report.pending {
+        None => silent(hold(report, place, report.tally)),
+        Some(sheet) => take_after(report, room, place, sheet, memory, line),
     }
 }
 
@@ -408,46 +315,75 @@ fn take_sheet(
     room: &[u8],
     place: usize,
     end: usize,
-    memory: &mut [u64],
-    lines: &mut [u8],
+    memory: &mut Memory,
+    line: &mut Line,
 ) -> Step
-    requires lent { Lent memory.old lines.old }
+    requires kept { Holds (kept (read memory.old)) }
     requires place_le_end { (place ≤ end) × (end ≤ length room.now) }
-    ensures { Moved memory.old memory.new lines.old lines.new result
+    ensures { Moved memory.old memory.new line.old line.new result
         (sheet_taken room.now report (was memory.old) place (take (end - place) (drop place room.now))) }
 {
     if MOST < report.length {
-        return silent(stopped(report, TOO_LONG));
+        return silent(stopped(report, Refusal::TooLong));
     }
     if end - place < report.length as usize {
-        return silent(stopped(report, TOO_LONG));
+        return silent(stopped(report, Refusal::TooLong));
     }
-    take_whole(report, room, place, memory, lines)
+    take_whole(report, room, place, memory, line)
 }
 
 // Prints the head.
-fn print_head(report: Report, lines: &mut [u8]) -> Step
-    requires { 128 ≤ length lines.old }
-    ensures { Told lines.old lines.new result (turned report Stage.Count) head }
+fn print_head(report: Report, line: &mut Line) -> Step
+    ensures { Told line.old line.new result (turned report Stage.Count) head }
 {
-    let used = printing::write_head(lines);
-    let next = at_stage(report, Stage::Count, number::start());
-    Step { report: next, used }
+    let used = printing::write_head(line);
+    Step {
+        report: at_stage(report, Stage::Count, number::start()),
+        used,
+    }
 }
 
 // Prints the last line: the sums, or a stop.
-fn print_last(report: Report, lines: &mut [u8]) -> Step
-    requires { 128 ≤ length lines.old }
-    ensures { Told lines.old lines.new result (turned report Stage.Nothing) (last_line report.tally report.stop) }
+fn print_last(report: Report, line: &mut Line) -> Step
+    ensures { Told line.old line.new result (turned report Stage.Nothing) (last_line report.tally report.stop) }
 {
-    let tally = report.tally;
-    let used = printing::write_last(tally, report.stop, lines);
-    let next = at_stage(report, Stage::Nothing, number::start());
-    Step { report: next, used }
+    let used = printing::write_last(report.tally, report.stop, line);
+    Step {
+        report: at_stage(report, Stage::Nothing, number::start()),
+        used,
+    }
+}
+
+// A step, with memory for a line.
+fn take_step(
+    report: Report,
+    room: &[u8],
+    place: usize,
+    end: usize,
+    memory: &mut Memory,
+    line: &mut Line,
+) -> Step
+    requires kept { Holds (kept (read memory.old)) }
+    requires place_le_end { (place ≤ end) × (end ≤ length room.now) }
+    ensures { Took report room.now place (take (end - place) (drop place room.now)) memory.old memory.new
+        line.old line.new result }
+{
+    match report.stage {
+        Stage::Head => print_head(report, line),
+        Stage::Count | Stage::Learner | Stage::Turn | Stage::Length => silent(take_byte(
+            report,
+            &room[place..end],
+        )),
+        Stage::Sheet => take_sheet(report, room, place, end, memory, line),
+        Stage::Line => print_pending(report, room, memory, line),
+        Stage::Last => print_last(report, line),
+        Stage::Nothing => silent(at_stage(report, Stage::Nothing, number::start())),
+    }
 }
 
 // A step, on the bytes that were handed, which lie in the memory from a place to an end; the pending sheet lies there too. Internal:
-// callers have shown that a session in memory is kept, and that there is room for a line.
+// callers have shown that a session in memory is kept, and that there is room for a line. docs/PROMISES.md
+// names it, so that it takes slices as before.
 pub fn take(
     report: Report,
     room: &[u8],
@@ -461,16 +397,11 @@ pub fn take(
     ensures { Took report room.now place (take (end - place) (drop place room.now)) memory.old memory.new
         lines.old lines.new result }
 {
-    let stage = report.stage;
-    match stage {
-        Stage::Head => print_head(report, lines),
-        Stage::Count => silent(take_byte(report, &room[place..end])),
-        Stage::Learner => silent(take_byte(report, &room[place..end])),
-        Stage::Turn => silent(take_byte(report, &room[place..end])),
-        Stage::Length => silent(take_byte(report, &room[place..end])),
-        Stage::Sheet => take_sheet(report, room, place, end, memory, lines),
-        Stage::Line => print_pending(report, room, memory, lines),
-        Stage::Last => print_last(report, lines),
-        Stage::Nothing => silent(at_stage(report, Stage::Nothing, number::start())),
-    }
+    let Some(session) = memory.first_chunk_mut::<WORDS>() else {
+        unreachable!();
+    };
+    let Some(line) = lines.first_chunk_mut::<ROOM>() else {
+        unreachable!();
+    };
+    take_step(report, room, place, end, session, line)
 }

@@ -1,6 +1,6 @@
 -- What may have been read of standard input ahead of what is asked for: no more than
 -- is sure to come, unless the report stops. So no byte after the last sheet is read.
-use Rattle.std.specs.Prelude.{ℕ, zero, suc, ◌+◌, ◌*◌, ◌-◌, ◌≤◌, ◌≡◌, refl, length}
+use Rattle.std.specs.Prelude.{ℕ, zero, suc, ◌+◌, ◌*◌, ◌-◌, ◌≤◌, ◌≡◌, refl, length, Option, None, Some}
 use mathlib.Core.List.{List, [], ◌∷◌}
 use native.Mathlib.Omega.{arith}
 use Rattle.number.specs.Number.{limit32}
@@ -13,8 +13,7 @@ use Rattle.session.specs.Table.{Session}
 use Rattle.sheet_counts.specs.declared.Tally.{Tally}
 use Rattle.class_rules.specs.Report.{most_bytes, fits}
 use Rattle.class.specs.declared.Report.{Report}
-use Rattle.class.specs.declared.Pending.{Pending}
-use Rattle.class.specs.declared.Pending.TheVariants.{Nobody, Somebody}
+use Rattle.class.specs.declared.Turned.{Turned}
 use Rattle.class.specs.declared.Stage.{Stage}
 use Rattle.class.specs.declared.Stage.TheVariants.{Head, Count, Learner, Turn, Length, Sheet, Line, Last, Nothing}
 use Rattle.class.specs.Steps.{begun, entry_or_line, going, valued, numbered, byte, Did, closed, after, taken, sheet_taken, asks_at}
@@ -85,7 +84,7 @@ module _ (r : Report) (n : ℕ) (a : Ahead r n) where
   asked_ahead m some few =
       fewer_at r.left r.length r.stop (asks r + behind r.left) m few r.stage (asked-at r n r.stage some a)
 
-going_ahead : (left : ℕ) (pending : Pending) (tally : Tally) (n : ℕ) → n ≤ 3 * left → Ahead (going left pending tally) n
+going_ahead : (left : ℕ) (pending : Option Turned) (tally : Tally) (n : ℕ) → n ≤ 3 * left → Ahead (going left pending tally) n
 unfolding going entry_or_line ahead_at
 going_ahead zero pending tally n few = λ s. omega arith
 going_ahead (suc left) pending tally n few = omega arith
@@ -111,19 +110,19 @@ module _ (r : Report) (n : ℕ) where
       go Bad = λ s. omega arith
 
   module _ (room : List ℕ) (at : ℕ) (bytes : List ℕ) (s : Session) where
-    taken_ahead : (pending : Pending) → n ≤ behind r.left → Ahead (taken room r s at pending).report n
+    taken_ahead : (pending : Option Turned) → n ≤ behind r.left → Ahead (taken room r s at pending).report n
     unfolding taken after ahead_at
-    taken_ahead Nobody few = going_ahead (r.left - 1) _ _ n few
-    taken_ahead (Somebody p) few =
+    taken_ahead None few = going_ahead (r.left - 1) _ _ n few
+    taken_ahead (Some p) few =
         choose_case (λ (d : Did). Ahead d.report n) _ _ _
         (λ _. choose_case (λ (d : Did). Ahead d.report n) _ _ _ (λ _. going_ahead (r.left - 1) _ _ n few)
         (λ _. going_ahead (r.left - 1) _ _ n few))
         (λ _ e. omega arith)
 
-    closed_ahead : (pending : Pending) → (r.stop ≡ 0 → n ≡ 0) → Ahead (closed room r s pending).report n
+    closed_ahead : (pending : Option Turned) → (r.stop ≡ 0 → n ≡ 0) → Ahead (closed room r s pending).report n
     unfolding closed ahead_at
-    closed_ahead Nobody a = a
-    closed_ahead (Somebody p) a = a
+    closed_ahead None a = a
+    closed_ahead (Some p) a = a
 
     step-at : (stage : Stage) → At (length bytes + n) stage → Ahead (does_at room at bytes r s stage).report n
     unfolding does_at ahead_at sheet_taken valued

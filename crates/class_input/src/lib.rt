@@ -10,24 +10,28 @@ ghost use Rattle.class.specs.Steps.{asks, pending_in};
 ghost use Rattle.class_input.specs.Ahead.{behind, Ahead};
 ghost use Rattle.class_input.specs.Window.{part, size_of, Inside, Filled, Given};
 
-use class::Report;
+use class::{Report, TWO_SHEETS};
 use std::io;
 use std::io::Read;
 
-// How many bytes are read ahead at most; the numbers of more entries than these take as many.
+// How many bytes are read ahead at most.
 pub const INPUT: usize = 16384;
 
-const ENTRIES: u64 = 5461;
+// The memory of what is read ahead, and that of the pending sheet and the next one.
+pub type Input = [u8; INPUT];
 
-// Where the bytes lie that were read and are not handed yet: from one place of a memory to another.
-#[derive(Clone, Copy)]
+pub type Room = [u8; TWO_SHEETS];
+
+// Where the bytes lie that were read and are not handed yet: from one place of a memory to another. No slice: the memory is read into
+// again while the window goes along.
+#[derive(Clone, Copy, Debug, PartialEq, Eq)]
 pub struct Window {
     pub from: usize,
     pub to: usize,
 }
 
 // The place behind the bytes that are handed, and what is still to be handed.
-#[derive(Clone, Copy)]
+#[derive(Clone, Copy, Debug, PartialEq, Eq)]
 pub struct Handed {
     pub end: usize,
     pub window: Window,
@@ -38,18 +42,13 @@ fn may_read(left: u64) -> usize
     ensures told { result ≡ least (1 + behind left) 16384 }
     ensures most { result ≤ 16384 }
 {
-    if left == 0 {
-        return 1;
-    }
-    if ENTRIES < left {
-        return INPUT;
-    }
-    1 + 3 * (left - 1) as usize
+    let behind = left.saturating_sub(1).saturating_mul(3);
+    behind.saturating_add(1).min(INPUT as u64) as usize
 }
 
 // The same window or, in place of one that is empty, what one read gives; nothing, if the input has ended. An error is that read's.
-fn fill<R: Read>(reader: &mut R, window: Window, left: u64, input: &mut [u8]) -> io::Result<Window>
-    requires { (length input.old ≡ 16384) × Inside window input.old }
+fn fill<R: Read>(reader: &mut R, window: Window, left: u64, input: &mut Input) -> io::Result<Window>
+    requires { Inside window input.old }
     ensures filled { IfOk result (λ w. (f : Filled window left input.old input.new w)
         × Consumes (R.remaining reader.old) (R.remaining reader.new) f.came) }
     ensures ended { IfOk result (λ w. size_of w ≡ 0 → IsAtEnd (R.remaining reader.new)) }
@@ -70,9 +69,8 @@ fn hand(window: Window, n: usize, input: &[u8], place: usize, room: &mut [u8]) -
     ensures put { room.new ≡ splice room.old place (part input.now window.from (window.from + result)) }
 {
     let from = window.from;
-    let k = turns::least_of(n, window.to - from);
-    let end = from + k;
-    text::write_bytes(&input[from..end], room, place);
+    let k = n.min(window.to - from);
+    text::write_bytes(&input[from..from + k], room, place);
     k
 }
 
@@ -96,12 +94,12 @@ pub fn read_asked<R: Read>(
     reader: &mut R,
     report: Report,
     window: Window,
-    input: &mut [u8],
+    input: &mut Input,
     place: usize,
-    room: &mut [u8],
+    room: &mut Room,
 ) -> io::Result<Handed>
-    requires input_len { (length input.old ≡ 16384) × Inside window input.old × Ahead report (window.to - window.from) }
-    requires room_len { (length room.old ≡ 65536) × InHalf report.pending × (place ≡ free_half report.pending) }
+    requires inside { Inside window input.old × Ahead report (window.to - window.from) }
+    requires half { InHalf report.pending × (place ≡ free_half report.pending) }
     ensures given { IfOk result (λ h. (g : Given report window place input.old input.new room.old room.new h)
         × Consumes (R.remaining reader.old) (R.remaining reader.new) g.came) }
     ensures ended { IfOk result (λ h. (h.end - place) < asks report → IsAtEnd (R.remaining reader.new)) }

@@ -2,18 +2,19 @@
 -- learner whose sheet is pending: the steps over them are passed.
 use Prim.Native.Nat.{ℕ, zero, suc, ◌+◌, ◌-◌, ◌≤◌, ◌<◌}
 use mathlib.Core.List.{List, [], ◌∷◌, ◌++◌, append-nil}
-use Rattle.std.specs.Prelude.{true, false, T}
+use Rattle.std.specs.Prelude.{true, false, T, Ok, Err, Option, None, Some}
+use Rattle.std.specs.Result.{result_ok}
 use Rattle.std.proofs.Math.Path.{◌≡◌, refl, ap, sym, subst}
 use Rattle.std.proofs.Common.{◌∙◌, drop-drop}
 use native.Mathlib.Omega.{arith}
 use Rattle.std.proofs.Math.ListN.{length, take, drop, length-drop}
 use Rattle.std.proofs.Math.Seq.{length-take-le}
-use Rattle.number.specs.Number.{limit32, read_at}
+use Rattle.number.specs.Number.{limit32, read_at, Reading}
 use Rattle.number.specs.Fed.{start, fed, feeds}
 use Rattle.number.specs.FedLaws.{feeds_reads}
+use Rattle.number.specs.NumberCases.{same_read}
 use Rattle.number.specs.NumberRoundTrip.{value-next}
-use Rattle.number.specs.declared.Reading.{Reading}
-use Rattle.number.specs.declared.Reading.TheVariants.{Value, CutShort, Bad as BadNumber}
+use Rattle.number.specs.declared.Unread.TheVariants.{CutShort, Bad as BadNumber}
 use Rattle.number.specs.declared.reader.Reader.{Reader}
 use Rattle.number.specs.declared.reader.Fed.{Fed}
 use Rattle.number.specs.declared.reader.Fed.TheVariants.{More, Whole, Bad}
@@ -24,11 +25,7 @@ use Rattle.sheet_counts.specs.declared.Tally.{Tally}
 use Rattle.sheet_counts.specs.Answers.{no_counts}
 use Rattle.class_rules.specs.Report.{most_bytes, met, fits, sheet_at}
 use Rattle.class.specs.declared.Report.{Report}
-use Rattle.class_parts.specs.declared.passing.Header.{Header}
-use Rattle.class_parts.specs.declared.passing.Header.TheVariants.{Numbers, Other}
 use Rattle.class.specs.declared.Turned.{Turned}
-use Rattle.class.specs.declared.Pending.{Pending}
-use Rattle.class.specs.declared.Pending.TheVariants.{Nobody, Somebody}
 use Rattle.class.specs.declared.Stage.{Stage}
 use Rattle.class.specs.declared.Stage.TheVariants.{Learner, Turn, Length, Sheet}
 use Rattle.class.specs.Steps.{entry_or_line, entry_next, going, entry_to, valued, numbered, byte, fed_to, Did, did, superseded, after}
@@ -37,16 +34,33 @@ use Rattle.class.specs.Chains.{State, state, onward, step_of, Went, further, ste
 
 -- The numbers of the entry at a place, from its length on, from its turn on
 -- and from its learner on: the sheet as it was turned in, if they can be read.
-unfoldable pub length_at : List ℕ → ℕ → ℕ → ℕ → Header
+unfoldable pub length_at : List ℕ → ℕ → ℕ → ℕ → Option Turned
 length_at file learner turn at =
-    met (read_at limit32 file at) (λ _. Other)
-    (λ size next. Numbers (record { learner = learner; turn = turn; place = next; length = size }))
+    met (read_at limit32 file at) (λ _. None)
+    (λ size next. Some (record { learner = learner; turn = turn; place = next; length = size }))
 
-unfoldable pub turn_at : List ℕ → ℕ → ℕ → Header
-turn_at file learner at = met (read_at limit32 file at) (λ _. Other) (length_at file learner)
+unfoldable pub turn_at : List ℕ → ℕ → ℕ → Option Turned
+turn_at file learner at = met (read_at limit32 file at) (λ _. None) (length_at file learner)
 
-unfoldable pub header_at : List ℕ → ℕ → Header
-header_at file at = met (read_at limit32 file at) (λ _. Other) (turn_at file)
+unfoldable pub header_at : List ℕ → ℕ → Option Turned
+header_at file at = met (read_at limit32 file at) (λ _. None) (turn_at file)
+
+-- what follows a number, where it is there
+abbrev number_then : Option (ℕ × ℕ) → (ℕ → ℕ → Option Turned) → Option Turned
+number_then None g = None
+number_then (Some (v, n)) g = g v n
+
+met_then : (r : Reading) (g : ℕ → ℕ → Option Turned) → met r (λ _. None) g ≡ number_then (result_ok r) g
+unfolding met
+met_then (Ok (v, n)) g = refl
+met_then (Err (BadNumber n)) g = refl
+met_then (Err CutShort) g = refl
+
+pub read_then : (file : List ℕ) (at : ℕ) (g : ℕ → ℕ → Option Turned) (r : Reading) (o q : Option (ℕ × ℕ))
+    → r ≡ read_at limit32 file at → o ≡ result_ok r → o ≡ q
+    → met (read_at limit32 file at) (λ _. None) g ≡ number_then q g
+read_then file at g r o q a b c =
+    ap (λ (x : Reading). met x (λ _. None) g) (sym a) ∙ met_then r g ∙ ap (λ (x : Option (ℕ × ℕ)). number_then x g) (sym b ∙ c)
 
 module _ (file : List ℕ) where
   -- Steps that print nothing lead from one place and report to others.
@@ -92,11 +106,11 @@ module _ (file : List ℕ) where
   -- A number that can be read leads to what comes behind it.
   feeds-leads : (stage : Stage) → Takes stage → (rest : List ℕ) (at : ℕ) (r : Report) (reader : Reader) (v n : ℕ)
       → drop at file ≡ rest
-      → feeds limit32 reader rest at ≡ Value v n → Leads at (fed_to r stage reader) n (valued r stage v)
+      → feeds limit32 reader rest at ≡ Ok (v, n) → Leads at (fed_to r stage reader) n (valued r stage v)
   unfolding feeds byte numbered
   feeds-leads stage t [] at r reader v n d e = absurd (unread e)
     where
-      unread : CutShort ≡ Value v n → ⊥
+      unread : ◌≡◌ {A = Reading} (Err CutShort) (Ok (v, n)) → ⊥
       unread e = let z : ◌≡◌ {A = ℕ} 0 1 = cc in omega arith
   feeds-leads stage t (b ∷ bs) at r reader v n d e =
       go (fed limit32 reader b) refl e (λ next. feeds-leads stage t bs (at + 1) r next v n next-bytes)
@@ -114,37 +128,37 @@ module _ (file : List ℕ) where
       first q is = step-leads at there (b ∷ []) q one (λ s. t.takes at (b ∷ []) there s ∙ ap (λ (p : Report). did p [] s) is)
 
       go : (f : Fed) → fed limit32 reader b ≡ f
-          → elim f [ More next ↦ feeds limit32 next bs (at + 1) | Whole w ↦ Value w (at + 1) | Bad ↦ BadNumber (at + 1) ]
-          ≡ Value v n
-          → ((next : Reader) → feeds limit32 next bs (at + 1) ≡ Value v n
+          → ◌≡◌ {A = Reading}
+          (elim f [ More next ↦ feeds limit32 next bs (at + 1) | Whole w ↦ Ok (w, at + 1) | Bad ↦ Err (BadNumber (at + 1)) ])
+          (Ok (v, n))
+          → ((next : Reader) → feeds limit32 next bs (at + 1) ≡ Ok (v, n)
           → Leads (at + 1) (fed_to r stage next) n (valued r stage v))
           → Leads at there n (valued r stage v)
       go (More next) f e ih =
           leads_on at (at + 1) n there (fed_to r stage next) (valued r stage v) (first (fed_to r stage next) (rw f refl))
           (ih next e)
       go (Whole w) f e ih =
-          let value : w ≡ v = cc in
-          let place : at + 1 ≡ n = cc in
-          subst (λ (k : ℕ). Leads at there k (valued r stage v)) place
-          (first (valued r stage v) (rw f (t.same r reader w ∙ ap (valued r stage) value)))
+          let same = same_read w (at + 1) v n e in
+          subst (λ (k : ℕ). Leads at there k (valued r stage v)) same.1
+          (first (valued r stage v) (rw f (t.same r reader w ∙ ap (valued r stage) same.0)))
       go Bad f e ih = absurd (bad e)
         where
-          bad : BadNumber (at + 1) ≡ Value v n → ⊥
+          bad : ◌≡◌ {A = Reading} (Err (BadNumber (at + 1))) (Ok (v, n)) → ⊥
           bad e = let z : ◌≡◌ {A = ℕ} 0 1 = cc in omega arith
 
   -- a number that stands at a place
-  number-leads : (stage : Stage) → Takes stage → (at : ℕ) (r : Report) (v n : ℕ) → read_at limit32 file at ≡ Value v n
+  number-leads : (stage : Stage) → Takes stage → (at : ℕ) (r : Report) (v n : ℕ) → read_at limit32 file at ≡ Ok (v, n)
       → Leads at (fed_to r stage start) n (valued r stage v)
   number-leads stage t at r v n e = feeds-leads stage t (drop at file) at r start v n refl (feeds_reads limit32 file at ∙ e)
 
   -- Numbers that can be read lead to the entry's sheet.
-  module _ (at l : ℕ) (q : Pending) (t : Tally) where
+  module _ (at l : ℕ) (q : Option Turned) (t : Tally) where
     abbrev from : Report
     from = going (suc l) q t
 
-    unfoldable pub Heads : Header → Type 0
-    Heads Other = Unit {0}
-    Heads (Numbers e) =
+    unfoldable pub Heads : Option Turned → Type 0
+    Heads None = Unit {0}
+    Heads (Some e) =
         Leads at from e.place (entry_to from Sheet e.learner e.turn e.length) × (at < e.place)
         × (e.place ≤ length file)
 
@@ -158,17 +172,17 @@ module _ (file : List ℕ) where
 
         go : (r : Reading) → read_at limit32 file b ≡ r
             → Heads
-            (met r (λ _. Other)
-            (λ size next. Numbers (record { learner = learner; turn = turn; place = next; length = size })))
-        go (Value size c) e =
+            (met r (λ _. None)
+            (λ size next. Some (record { learner = learner; turn = turn; place = next; length = size })))
+        go (Ok (size, c)) e =
             let n = value-next limit32 file b size c e in (
               leads_on at b c from here (entry_to from Sheet learner turn size) w
                   (number-leads Length length_takes b here size c e),
               omega (arith, n.1),
               n.2,
             )
-        go (BadNumber n) e = tt
-        go CutShort e = tt
+        go (Err (BadNumber n)) e = tt
+        go (Err CutShort) e = tt
 
     turn_heads : (learner a : ℕ) → at ≤ a → Leads at from a (entry_to from Turn learner 0 0) → Heads (turn_at file learner a)
     unfolding Heads turn_at met valued
@@ -177,36 +191,36 @@ module _ (file : List ℕ) where
         here : Report
         here = entry_to from Turn learner 0 0
 
-        go : (r : Reading) → read_at limit32 file a ≡ r → Heads (met r (λ _. Other) (length_at file learner))
-        go (Value turn b) e =
+        go : (r : Reading) → read_at limit32 file a ≡ r → Heads (met r (λ _. None) (length_at file learner))
+        go (Ok (turn, b)) e =
             let n = value-next limit32 file a turn b e in
             length_heads learner turn b (omega (arith, n.1))
             (leads_on at a b from here (entry_to from Length learner turn 0) w (number-leads Turn turn_takes a here turn b e))
-        go (BadNumber n) e = tt
-        go CutShort e = tt
+        go (Err (BadNumber n)) e = tt
+        go (Err CutShort) e = tt
 
     pub heads : Heads (header_at file at)
     unfolding Heads header_at met going entry_or_line valued
     heads = go (read_at limit32 file at) refl
       where
-        go : (r : Reading) → read_at limit32 file at ≡ r → Heads (met r (λ _. Other) (turn_at file))
-        go (Value learner a) e =
+        go : (r : Reading) → read_at limit32 file at ≡ r → Heads (met r (λ _. None) (turn_at file))
+        go (Ok (learner, a)) e =
             let n = value-next limit32 file at learner a e in
             turn_heads learner a (omega (arith, n.1)) (number-leads Learner learner_takes at from learner a e)
-        go (BadNumber n) e = tt
-        go CutShort e = tt
+        go (Err (BadNumber n)) e = tt
+        go (Err CutShort) e = tt
 
   -- The sheet of another turn of the pending learner: the one that supersedes is pending behind it.
   sheet_leads : (l : ℕ) (p e : Turned) (t : Tally) → e.learner ≡ p.learner → Holds (fits file e.place e.length)
-      → Leads e.place (entry_to (going (suc l) (Somebody p) t) Sheet e.learner e.turn e.length) (e.place + e.length)
-      (going l (Somebody (superseded file p e)) t)
+      → Leads e.place (entry_to (going (suc l) (Some p) t) Sheet e.learner e.turn e.length) (e.place + e.length)
+      (going l (Some (superseded file p e)) t)
   unfolding asks_at does_at sheet_taken taken after going
   sheet_leads l p e t same h =
       let at = e.place in
       let size = e.length in
-      let r = entry_to (going (suc l) (Somebody p) t) Sheet e.learner e.turn size in
+      let r = entry_to (going (suc l) (Some p) t) Sheet e.learner e.turn size in
       let bytes = sheet_at file at size in
-      let next = going l (Somebody (superseded file p e)) t in
+      let next = going l (Some (superseded file p e)) t in
       let n : length bytes ≡ size = length-take-le size (drop at file) h.1 in
       let handed-is : handed file at r ≡ bytes =
       ap (λ (k : ℕ). take k (drop at file)) (choose_yes (size ≼ most_bytes) size 0 h.0) in
@@ -239,16 +253,16 @@ module _ (file : List ℕ) where
 
   -- One turn more.
   pub passed_more : (at : ℕ) (r : Report) (next more : ℕ) (p e : Turned) (t : Tally) → 1 < more
-      → Passed at r next (going more (Somebody p) t)
-      → header_at file next ≡ Numbers e → e.learner ≡ p.learner → Holds (fits file e.place e.length)
-      → Passed at r (e.place + e.length) (going (more - 1) (Somebody (superseded file p e)) t)
+      → Passed at r next (going more (Some p) t)
+      → header_at file next ≡ Some e → e.learner ≡ p.learner → Holds (fits file e.place e.length)
+      → Passed at r (e.place + e.length) (going (more - 1) (Some (superseded file p e)) t)
   unfolding Heads going entry_or_line
   passed_more at r next zero p e t h w is same f = absurd (omega arith)
   passed_more at r next (suc zero) p e t h w is same f = absurd (omega arith)
   passed_more at r next (suc (suc l)) p e t h w is same f =
-      let n = subst (Heads next (suc l) (Somebody p) t) is (heads next (suc l) (Somebody p) t) in
-      let was = going (suc (suc l)) (Somebody p) t in
-      let q = going (suc l) (Somebody (superseded file p e)) t in
+      let n = subst (Heads next (suc l) (Some p) t) is (heads next (suc l) (Some p) t) in
+      let was = going (suc (suc l)) (Some p) t in
+      let q = going (suc l) (Some (superseded file p e)) t in
       let end = e.place + e.length in
       let one : suc (suc l) - 1 ≡ suc l = omega arith in
       let leads = leads_on next e.place end was _ q n.0 (sheet_leads (suc l) p e t same f) in
@@ -257,17 +271,17 @@ module _ (file : List ℕ) where
         inside = omega (arith, f.1, length-drop e.place file, n.2);
         fewer = omega (arith, w.fewer, no_more file next end was q (omega (arith, n.1)) refl);
       } in
-      subst (λ (k : ℕ). Passed at r end (going k (Somebody (superseded file p e)) t)) (sym one) passed
+      subst (λ (k : ℕ). Passed at r end (going k (Some (superseded file p e)) t)) (sym one) passed
 
   -- where its numbers were read its sheet lies inside the file
-  pub header_inside : (at : ℕ) (e : Turned) → header_at file at ≡ Numbers e → e.place ≤ length file
+  pub header_inside : (at : ℕ) (e : Turned) → header_at file at ≡ Some e → e.place ≤ length file
   unfolding Heads
-  header_inside at e is = (subst (Heads at 0 Nobody no_counts) is (heads at 0 Nobody no_counts)).2
+  header_inside at e is = (subst (Heads at 0 None no_counts) is (heads at 0 None no_counts)).2
 
   -- The numbers of an entry.
-  pub passed_numbers : (at : ℕ) (r : Report) (next left : ℕ) (q : Pending) (t : Tally) (e : Turned) → 1 ≤ left
+  pub passed_numbers : (at : ℕ) (r : Report) (next left : ℕ) (q : Option Turned) (t : Tally) (e : Turned) → 1 ≤ left
       → Passed at r next (going left q t)
-      → header_at file next ≡ Numbers e
+      → header_at file next ≡ Some e
       → Passed at r e.place (entry_to (going left q t) Sheet e.learner e.turn e.length)
   unfolding Heads going entry_or_line
   passed_numbers at r next zero q t e h w is = absurd (omega arith)

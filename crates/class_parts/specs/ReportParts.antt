@@ -1,5 +1,5 @@
 -- A part of a report: what lent line memory holds of it, and where the next part goes on.
-use Rattle.std.specs.Prelude.{ℕ, ◌+◌, ◌-◌, ◌≤◌, ◌<◌, List, [], ◌++◌, ◌≡◌, ◌⊎◌, length, take, drop}
+use Rattle.std.specs.Prelude.{ℕ, ◌+◌, ◌-◌, ◌≤◌, ◌<◌, List, [], ◌++◌, ◌≡◌, ◌⊎◌, Result, Ok, Err, min, length, take, drop}
 use Rattle.std.proofs.Math.Path.{refl}
 use Rattle.std.proofs.Common.{ap, sym, ◌∙◌, arith, length-take, length-drop, length-take-le, le-leb}
 use borrow.Rule.Slice.PartMut.{put_mid, mid_of}
@@ -7,9 +7,12 @@ use Rattle.number.specs.Splice.{splice_to}
 use Rattle.lines.specs.LineLaws.{splice_tail}
 use Rattle.session.specs.TableLaws.{wrote_none, wrote_then}
 use Rattle.session.specs.Table.{Wrote, read, words}
-use Rattle.session.specs.Fresh.{fresh_session, Leaves}
+use Rattle.session.specs.First.{read_front, wrote_first}
+use Rattle.session.specs.Fresh.{Leaves, fresh_session}
+use Rattle.rules.specs.declared.refusals.Refusal.{Refusal}
+use Rattle.rules.specs.declared.refusals.Refusal.TheVariants.{NoRoom}
 use Rattle.rules.specs.Formula.{Formula, choose, Holds, Formula.◌≼◌, Formula.◌and◌}
-use Rattle.rules.specs.FormulaLaws.{passes, fails}
+use Rattle.rules.specs.FormulaLaws.{passes, fails, choose_case}
 use Rattle.rules.specs.Sound.{kept}
 use Rattle.laws.specs.FreshKept.{fresh_kept}
 use Rattle.text.specs.Put.{Put, put_none, put_then}
@@ -41,7 +44,6 @@ pub record SteppedOn (file : List ℕ) (at : ℕ) (r : Report) (before after lin
 -- A part: steps from where the report stood, as long as there was room for a line. The lines at the start of the memory are what
 -- they print; the session is what they leave; the rest of both memories is as it was.
 pub record Reported (file : List ℕ) (at : ℕ) (r : Report) (before after lines lines' : List ℕ) (p : Part) : Type 0 where
-  pub refused : p.refused ≡ 0
   pub text : List ℕ
   pub went : Went file (state at r fresh_session) text (state p.place p.report (read after))
   pub line : Put lines 0 text p.used lines'
@@ -49,6 +51,9 @@ pub record Reported (file : List ℕ) (at : ℕ) (r : Report) (before after line
   pub fits : p.used ≤ length lines'
   pub session : Wrote before after (read after)
   pub ends : (p.report.stage ≡ Nothing) ⊎ (length lines' < p.used + report_room)
+
+pub min-least : (a b : ℕ) → min a b ≡ least a b
+min-least a b = choose_case (λ (n : ℕ). min a b ≡ n) (a ≼ b) a b (λ h. omega arith) (λ h. omega arith)
 
 -- what the code hands to a step, and where it ends
 pub handed-bytes : (file : List ℕ) (at : ℕ) (r : Report) (n : ℕ) → n ≡ least (asks r) (length file - at) → n ≤ length file - at
@@ -67,7 +72,7 @@ handed-bytes file at r n e few h =
 pub stepped_on : (file : List ℕ) (at : ℕ) (r : Report) (bytes before after lines tail : List ℕ) (used end : ℕ) (x : Step)
     (p : Part)
     → used ≤ length lines
-    → p ≡ record { refused = 0; used = used + x.used; place = end; report = x.report }
+    → p ≡ record { used = used + x.used; place = end; report = x.report }
     → bytes ≡ handed file at r
     → end ≡ at + length (handed file at r)
     → Took r file at bytes before after (mid_of used (length lines - used) lines) tail x
@@ -98,11 +103,11 @@ stepped_fewer file at r before after lines lines' used p x n = rw (x.place, x.re
 abbrev pub lends : List ℕ → List ℕ → Formula
 lends memory lines = report_room ≼ length lines and words ≼ length memory
 
-unfoldable pub Parted : List ℕ → ℕ → Report → List ℕ → List ℕ → List ℕ → List ℕ → Part → Type 0
-Parted file place r before after lines lines' p =
+unfoldable pub Parted : List ℕ → ℕ → Report → List ℕ → List ℕ → List ℕ → List ℕ → Result Part Refusal → Type 0
+Parted file place r before after lines lines' x =
     choose (lends before lines)
-    (Reported file (least place (length file)) r before after lines lines' p)
-    ((after ≡ before) × (lines' ≡ lines) × (p ≡ record { refused = 1; used = 0; place = place; report = r }))
+    ((p : Part) × (x ≡ Ok p) × Reported file (least place (length file)) r before after lines lines' p)
+    ((after ≡ before) × (lines' ≡ lines) × (x ≡ Err NoRoom))
 
 -- The bytes of the lines, and what is printed from where the next part goes on, are what is printed from where this one began.
 pub part-prints : (file : List ℕ) (at : ℕ) (r : Report) (before after lines lines' : List ℕ) (p : Part)
@@ -183,9 +188,8 @@ module _ (file : List ℕ) (at : ℕ) (r : Report) (before memory lines now-line
 
     -- nothing is left, or there is no room for a line
     pub going_ends : (q.stage ≡ Nothing) ⊎ (length now-lines < used + report_room)
-        → Reported file at r before memory lines now-lines (record { refused = 0; used = used; place = place; report = q })
+        → Reported file at r before memory lines now-lines (record { used = used; place = place; report = q })
     going_ends e = record {
-      refused = refl;
       text = g.text;
       went = g.went;
       line = g.line;
@@ -197,32 +201,58 @@ module _ (file : List ℕ) (at : ℕ) (r : Report) (before memory lines now-line
 
 module _ (file : List ℕ) (place : ℕ) (r : Report) (before lines : List ℕ) where
   -- memory that is not lent stays as it was
-  pub parted_not : (Holds (lends before lines) → ⊥)
-      → Parted file place r before before lines lines (record { refused = 1; used = 0; place = place; report = r })
+  pub parted_not : (Holds (lends before lines) → ⊥) → Parted file place r before before lines lines (Err NoRoom)
   unfolding Parted
   parted_not n = rw (fails (lends before lines) n) (refl, refl, refl)
-
-  -- memory that holds a fresh session now
-  pub parted_fresh : (fresh after lines' : List ℕ) (at : ℕ) (p : Part)
-      → Holds (lends before lines) → Leaves before fresh fresh_session → at ≡ least place (length file)
-      → Reported file at r fresh after lines lines' p → Parted file place r before after lines lines' p
-  unfolding Parted
-  parted_fresh fresh after lines' at p h w e x =
-      let v : Wrote before fresh fresh_session = rw (le-leb words (length before) h.1) at w in
-      let y = rw e at x in
-      rw (passes (lends before lines) h) (record {
-        refused = y.refused;
-        text = y.text;
-        went = y.went;
-        line = y.line;
-        long = y.long;
-        fits = y.fits;
-        session = wrote_then v y.session;
-        ends = y.ends;
-      })
 
   pub fresh-read : (fresh : List ℕ) → Holds (lends before lines) → Leaves before fresh fresh_session
       → (words ≤ length fresh) × (read fresh ≡ fresh_session)
   fresh-read fresh h w =
       let v : Wrote before fresh fresh_session = rw (le-leb words (length before) h.1) at w in
       (omega (arith, h.1, v.same_length), v.reading)
+
+  pub parted_fresh : (fresh after lines' : List ℕ) (at : ℕ) (p : Part)
+      → Holds (lends before lines) → Leaves before fresh fresh_session → at ≡ least place (length file)
+      → Reported file at r fresh after lines lines' p → Parted file place r before after lines lines' (Ok p)
+  unfolding Parted
+  parted_fresh fresh after lines' at p h w e x =
+      let v : Wrote before fresh fresh_session = rw (le-leb words (length before) h.1) at w in
+      let y = rw e at x in
+      rw (passes (lends before lines) h) (
+        p,
+        refl,
+        record {
+          text = y.text;
+          went = y.went;
+          line = y.line;
+          long = y.long;
+          fits = y.fits;
+          session = wrote_then v y.session;
+          ends = y.ends;
+        },
+      )
+
+  -- memory of whose first words a fresh session was made
+  pub parted_first : (fresh after lines' : List ℕ) (at : ℕ) (p : Part)
+      → Holds (lends before lines) → Wrote (take words before) fresh fresh_session → at ≡ least place (length file)
+      → Reported file at r fresh after lines lines' p
+      → Parted file place r before (after ++ drop words before) lines lines' (Ok p)
+  unfolding Parted
+  parted_first fresh after lines' at p h w e x =
+      let y = rw e at x in
+      let v = wrote_then w y.session in
+      let long : length after ≡ words = v.same_length ∙ length-take-le words before h.1 in
+      let same : read (after ++ drop words before) ≡ read after = read_front after (drop words before) long in
+      rw (passes (lends before lines) h) (
+        p,
+        refl,
+        record {
+          text = y.text;
+          went = rw same y.went;
+          line = y.line;
+          long = y.long;
+          fits = y.fits;
+          session = rw same (wrote_first before after (read after) h.1 v);
+          ends = y.ends;
+        },
+      )

@@ -7,10 +7,9 @@ mod passing;
 use class::Report;
 pub use parts::report_part;
 
-// A part of a report: the refusal, 0 if there was none, the length of the lines, and the place and the report where to go on.
-#[derive(Clone, Copy)]
+// A part of a report: the length of the lines, and the place and the report where to go on.
+#[derive(Clone, Copy, Debug, PartialEq, Eq)]
 pub struct Part {
-    pub refused: u64,
     pub used: usize,
     pub place: usize,
     pub report: Report,

@@ -6,13 +6,16 @@ ghost use Rattle.sheet.specs.Printing.{Ready};
 ghost use Rattle.text.specs.Put.{Put};
 ghost use Rattle.class_report.specs.ProgramStepped.{step_on};
 
-use class::{Report, Stage, Step};
+use class::{Report, Step};
 use class_input::Window;
+use session::Memory;
 use std::io;
 use std::io::{Read, Write};
 
 // How many bytes of lines are gathered, at most, before they are written.
 const PART: usize = 16384;
+
+type Lines = [u8; PART];
 
 // A step, its line put behind those that are gathered already.
 fn gather(
@@ -20,11 +23,11 @@ fn gather(
     room: &[u8],
     place: usize,
     end: usize,
-    memory: &mut [u64],
-    lines: &mut [u8],
+    memory: &mut Memory,
+    lines: &mut Lines,
     filled: usize,
 ) -> Step
-    requires ready_2 { Ready memory.old lines.old × (length lines.old ≡ 16384) × (filled + 128 ≤ 16384) }
+    requires ready_2 { Ready memory.old lines.old × (filled + 128 ≤ 16384) }
     requires place_le_end { (place ≤ end) × (end ≤ length room.now) }
     ensures next { result.report ≡ (step_on room.now place end report memory.old).report }
     ensures line { Put lines.old filled (step_on room.now place end report memory.old).text result.used lines.new }
@@ -32,16 +35,15 @@ fn gather(
     ensures inside { result.used ≤ length lines.new }
 {
     let step = class::take(report, room, place, end, memory, &mut lines[filled..]);
-    let next = step.report;
     Step {
-        report: next,
         used: filled + step.used,
+        ..step
     }
 }
 
 // Writes the lines if there may be no room for one more behind them, and answers how many bytes are left to write.
-fn write_full<W: Write>(writer: &mut W, lines: &[u8], used: usize) -> io::Result<usize>
-    requires { used ≤ length lines.now }
+fn write_full<W: Write>(writer: &mut W, lines: &Lines, used: usize) -> io::Result<usize>
+    requires { used ≤ 16384 }
     ensures { IfOk result (λ left. left + 128 ≤ 16384) }
 {
     if used <= PART - class::ROOM {
@@ -54,7 +56,7 @@ fn write_full<W: Write>(writer: &mut W, lines: &[u8], used: usize) -> io::Result
 // Reads a class file, and writes its report. An error is that of a read or of a write.
 fn run<R: Read, W: Write>(reader: &mut R, writer: &mut W) -> io::Result<()> {
     let mut memory = [0u64; session::WORDS];
-    session::write_fresh(&mut memory);
+    session::put_fresh(&mut memory);
     let mut room = [0u8; class::TWO_SHEETS];
     let mut input = [0u8; class_input::INPUT];
     let mut window = Window { from: 0, to: 0 };
@@ -62,8 +64,7 @@ fn run<R: Read, W: Write>(reader: &mut R, writer: &mut W) -> io::Result<()> {
     let mut filled = 0;
     let mut report = class::begin();
     // a proved loop has to end, and nothing says that the input does: so many turns no run uses up
-    let mut turns = u64::MAX;
-    while 0 < turns {
+    for _ in 0..u64::MAX {
         let place = class::free_half(report);
         let handed = class_input::read_asked(reader, report, window, &mut input, place, &mut room)?;
         let step = gather(
@@ -78,12 +79,10 @@ fn run<R: Read, W: Write>(reader: &mut R, writer: &mut W) -> io::Result<()> {
         window = handed.window;
         filled = step.used;
         report = step.report;
-        let stage = report.stage;
-        if let Stage::Nothing = stage {
+        if class::is_over(report) {
             return writer.write_all(&lines[..filled]);
         }
         filled = write_full(writer, &lines, filled)?;
-        turns -= 1;
     }
     Ok(())
 }

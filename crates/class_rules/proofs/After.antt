@@ -1,7 +1,7 @@
 -- "bytes after the last sheet are not read": they change nothing in the report.
 use Prim.Native.Nat.{ℕ, zero, suc, ◌+◌, ◌≤◌, ◌<◌}
 use mathlib.Core.List.{List, [], ◌∷◌, ◌++◌}
-use Rattle.std.specs.Prelude.{◌≡◌}
+use Rattle.std.specs.Prelude.{◌≡◌, Ok}
 use Rattle.std.proofs.Math.Path.{refl, ap}
 use Rattle.std.proofs.Common.{sym, ◌∙◌, arith}
 use Rattle.std.proofs.Math.ListN.{length, drop, length-append, length-drop}
@@ -11,7 +11,6 @@ use Rattle.number.specs.Encode.{Groups, one, several, groups}
 use Rattle.number.specs.Decode.{more_last, more_on}
 use Rattle.number.specs.NumberCases.{At, good, reading_as, judged-value, read_ends}
 use Rattle.number.specs.NumberRoundTrip.{value-next}
-use Rattle.number.specs.declared.Reading.TheVariants.{Value}
 use Rattle.rules.specs.Formula.{Formula, Holds, choose, Formula.◌≼◌}
 use Rattle.rules.specs.FormulaLaws.{choose_yes, choose_case}
 use Rattle.class_rules.specs.Report.{Class, stopped, followed, met, fits, sheet_at, entries_at, class_of, counted, head}
@@ -36,14 +35,14 @@ choose-behind f f' n c c' l to same =
 
 module _ (file after : List ℕ) where
   -- and is read as it is without that
-  read_behind : (at v next : ℕ) → at ≤ length file → read_at limit32 file at ≡ Value v next
-      → read_at limit32 (file ++ after) at ≡ Value v next
-  read_behind at v next inside e = go v next (reading_as limit32 file at (Value v next) e)
+  read_behind : (at v next : ℕ) → at ≤ length file → read_at limit32 file at ≡ Ok (v, next)
+      → read_at limit32 (file ++ after) at ≡ Ok (v, next)
+  read_behind at v next inside e = go v next (reading_as limit32 file at (Ok (v, next)) e)
     where
       d : drop at (file ++ after) ≡ drop at file ++ after
       d = drop-append-le at file after inside
 
-      go : (v next : ℕ) → At limit32 file at (Value v next) → read_at limit32 (file ++ after) at ≡ Value v next
+      go : (v next : ℕ) → At limit32 file at (Ok (v, next)) → read_at limit32 (file ++ after) at ≡ Ok (v, next)
       go v next (good l s h) =
           let m : more (drop at file ++ after) ≡ more (drop at file) = more-behind (drop at file) after l in
           read_ends limit32 (file ++ after) at (rw (d, m) (omega (arith, length-append (drop at file) after)))

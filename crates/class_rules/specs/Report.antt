@@ -1,9 +1,8 @@
 -- The class report (document 02, E1 and E2): "A class file .. is the number of sheets,
 -- then for each a learner number, a turn number, a byte length and the sheet".
-use Rattle.std.specs.Prelude.{ℕ, zero, suc, ◌+◌, List, [], ◌∷◌, ◌++◌, length, take, drop}
-use Rattle.number.specs.Number.{limit32, read_at}
-use Rattle.number.specs.declared.Reading.{Reading}
-use Rattle.number.specs.declared.Reading.TheVariants.{Value, Bad, CutShort}
+use Rattle.std.specs.Prelude.{ℕ, zero, suc, ◌+◌, List, [], ◌∷◌, ◌++◌, length, take, drop, Ok, Err}
+use Rattle.number.specs.Number.{limit32, read_at, Reading}
+use Rattle.number.specs.declared.Unread.TheVariants.{Bad, CutShort}
 use Rattle.lines.specs.Line.{marked, space, newline}
 use Rattle.rules.specs.Formula.{Formula, not, choose, Formula.◌≐◌, Formula.◌≼◌, Formula.◌and◌, Formula.◌then◌, Formula.never}
 use Rattle.sheet_counts.specs.declared.Tally.{Tally}
@@ -28,9 +27,9 @@ followed e c = record { entries = e ∷ c.entries; stop = c.stop }
 
 -- "Its numbers are coded as a sheet's; 3 and 4, met as each is read, end the report": a number that stops it, or what follows.
 unfoldable pub met {ℓ} : {A : Type ℓ} → Reading → (ℕ → A) → (ℕ → ℕ → A) → A
-met (Value v next) stop go = go v next
-met (Bad next) stop go = stop 4
-met CutShort stop go = stop 3
+met (Ok (v, next)) stop go = go v next
+met (Err (Bad next)) stop go = stop 4
+met (Err CutShort) stop go = stop 3
 
 -- "22, a length above 32,768 or past the end, checked before the sheet's own numbers"
 abbrev pub most_bytes : ℕ

@@ -150,7 +150,7 @@ module _ (file : List ℕ) where
       y₀ = stood (place_of state') state' (read after)
 
       p : Part
-      p = record { refused = 0; used = used; place = place_of state'; report = report_of state' }
+      p = record { used = used; place = place_of state'; report = report_of state' }
 
       r : Reported file at (report_of state) before after lines lines' p
       r =

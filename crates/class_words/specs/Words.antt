@@ -1,10 +1,15 @@
 -- The class report in parts, each told where the report stands by eighteen lent words and telling in them where the next goes on.
-use Rattle.std.specs.Prelude.{ℕ, suc, ◌+◌, ◌≤◌, ◌<◌, List, [], ◌∷◌, ◌++◌, ◌≡◌, length, drop, get_or, set}
+use Rattle.std.specs.Prelude.{ℕ, suc, ◌+◌, ◌≤◌, ◌<◌, List, [], ◌∷◌, ◌++◌, ◌≡◌, length, take, drop, get_or, set, Option, None, Some, Result, Ok, Err}
+use Rattle.std.specs.Option.{is_some, unwrap_or}
+use mir.Val.{bool_byte}
 use Rattle.std.proofs.Math.Path.{refl, ap, sym}
 use Rattle.std.proofs.Common.{◌∙◌, arith, add-one, length-set}
 use Rattle.std.proofs.Math.ListN.{get_or-eq_default}
+use Rattle.std.proofs.lemmas.List.{get_or-take}
 use Rattle.number.specs.Number.{splice}
 use Rattle.number.specs.Splice.{splice-step, splice_none, splice-length, splice-behind}
+use Rattle.rules.specs.declared.refusals.Refusal.{Refusal}
+use Rattle.rules.specs.Refusals.{number, refusal_told, number_some}
 use Rattle.rules.specs.Formula.{Formula, choose, Formula.◌≐◌, Formula.◌≼◌, Formula.◌and◌}
 use Rattle.rules.specs.FormulaLaws.{Case, decide, passes, fails, choose_yes, choose_no, Case.it_does, Case.it_does_not}
 use Rattle.class.specs.declared.Report.{Report}
@@ -12,8 +17,6 @@ use Rattle.class_parts.specs.declared.Part.{Part}
 use Rattle.class.specs.declared.Stage.{Stage}
 use Rattle.class.specs.declared.Stage.TheVariants.{Head, Count, Learner, Turn, Length, Sheet, Line, Last, Nothing}
 use Rattle.class.specs.declared.Turned.{Turned}
-use Rattle.class.specs.declared.Pending.{Pending}
-use Rattle.class.specs.declared.Pending.TheVariants.{Nobody, Somebody}
 use Rattle.turns.specs.MemoryPlaces.{least}
 use Rattle.class_parts.specs.ReportParts.{lends, Reported, Parted}
 
@@ -61,10 +64,10 @@ unfoldable pub place_of : List ℕ → ℕ
 place_of w = get_or w 1 0
 
 -- The pending sheet: 0 is nobody.
-unfoldable pub pending_of : List ℕ → Pending
+unfoldable pub pending_of : List ℕ → Option Turned
 pending_of w =
-    choose (get_or w 9 0 ≐ 0) Nobody
-    (Somebody (record { learner = get_or w 10 0; turn = get_or w 11 0; place = get_or w 12 0; length = get_or w 13 0 }))
+    choose (get_or w 9 0 ≐ 0) None
+    (Some (record { learner = get_or w 10 0; turn = get_or w 11 0; place = get_or w 12 0; length = get_or w 13 0 }))
 
 unfoldable pub report_of : List ℕ → Report
 report_of w = record {
@@ -80,15 +83,15 @@ report_of w = record {
 }
 
 -- Where nobody is pending, all of the sheet is 0.
-unfoldable pub held : Pending → ℕ
-held Nobody = 0
-held (Somebody p) = 1
+unfoldable pub held : Option Turned → ℕ
+held None = 0
+held (Some p) = 1
 
-unfoldable pub sheet_held : Pending → Turned
-sheet_held Nobody = record { learner = 0; turn = 0; place = 0; length = 0 }
-sheet_held (Somebody p) = p
+unfoldable pub sheet_held : Option Turned → Turned
+sheet_held None = record { learner = 0; turn = 0; place = 0; length = 0 }
+sheet_held (Some p) = p
 
-abbrev pub pending_words : Pending → List ℕ
+abbrev pub pending_words : Option Turned → List ℕ
 pending_words q = held q ∷ (sheet_held q).learner ∷ (sheet_held q).turn ∷ (sheet_held q).place ∷ (sheet_held q).length ∷ []
 
 unfoldable pub words_of : ℕ → Report → List ℕ
@@ -97,10 +100,10 @@ words_of place r =
     ∷ (pending_words r.pending ++ r.tally.records ∷ r.tally.refused ∷ r.tally.starts ∷ r.tally.dropped ∷ [])
 
 -- A pending sheet is the one that its words say.
-pending-is : (q : Pending) → choose (held q ≐ 0) Nobody (Somebody (sheet_held q)) ≡ q
+pending-is : (q : Option Turned) → choose (held q ≐ 0) None (Some (sheet_held q)) ≡ q
 unfolding held sheet_held
-pending-is Nobody = choose_yes (0 ≐ 0) Nobody _ refl
-pending-is (Somebody p) = choose_no (1 ≐ 0) Nobody (Somebody p) (λ e. omega arith)
+pending-is None = choose_yes (0 ≐ 0) None _ refl
+pending-is (Some p) = choose_no (1 ≐ 0) None (Some p) (λ e. omega arith)
 
 stage_code : (stage : Stage) → stage_of (code_of stage) ≡ stage
 unfolding stage_of code_of
@@ -156,7 +159,7 @@ lends_words state memory lines = words_of_class ≼ length state and lends memor
 -- A part from where the words say to where they say then, by the stage's own code; the words past them stay.
 pub record Continued (file state state' before after lines lines' : List ℕ) (used : ℕ) (refused : ℕ) : Type 0 where
   pub reported : Reported file (least (place_of state) (length file)) (report_of state) before after lines lines'
-      (record { refused = 0; used = used; place = place_of state'; report = report_of state' })
+      (record { used = used; place = place_of state'; report = report_of state' })
   pub code : code_in state' ≡ code_of (report_of state').stage
   pub done : refused ≡ 0
   pub long : length state' ≡ length state
@@ -169,51 +172,113 @@ Reports file state state' before after lines lines' used refused =
     (Continued file state state' before after lines lines' used refused)
     ((state' ≡ state) × (after ≡ before) × (lines' ≡ lines) × (used ≡ 0) × (refused ≡ 1))
 
+-- the part that an answer holds
+part_of : Part → Result Part Refusal → Part
+part_of p (Ok q) = q
+part_of p (Err e) = p
+
 module _ (file state before lines : List ℕ) where
   pub reports_short : length state < words_of_class → Reports file state state before before lines lines 0 1
   unfolding Reports
   reports_short h = rw (fails (lends_words state before lines) (λ x. omega (arith, x.0))) (refl, refl, refl, refl, refl)
 
-  module _ (after lines' : List ℕ) (p : Part) (h : words_of_class ≤ length state)
-      (x : Parted file (place_of state) (report_of state) before after lines lines' p)
-    where
-      -- a part that was refused
-      pub reports_not : (p.refused ≡ 0 → ⊥) → Reports file state state before after lines lines' 0 p.refused
-      unfolding Reports Parted
-      reports_not n = go (decide (lends before lines))
-        where
-          go : Case (lends before lines) → Reports file state state before after lines lines' 0 p.refused
-          go (it_does y) = absurd (n (rw (passes (lends before lines) y) at x).refused)
-          go (it_does_not y) =
-              let z = rw (fails (lends before lines) y) at x in
-              rw (fails (lends_words state before lines) (λ l. y l.1))
-              (refl, z.0, z.1, refl, ap (λ (q : Part). q.refused) z.2)
+  module _ (after lines' : List ℕ) (h : words_of_class ≤ length state) where
+    -- a part that was refused
+    pub reports_not : (e : Refusal) → Parted file (place_of state) (report_of state) before after lines lines' (Err e)
+        → Reports file state state before after lines lines' 0 (number e)
+    unfolding Reports Parted
+    reports_not e x = go (decide (lends before lines))
+      where
+        go : Case (lends before lines) → Reports file state state before after lines lines' 0 (number e)
+        go (it_does y) =
+            let z = rw (passes (lends before lines) y) at x in
+            absurd (omega (arith, ap (refusal_told {A = Part}) z.1, number_some e))
+        go (it_does_not y) =
+            let z = rw (fails (lends before lines) y) at x in
+            rw (fails (lends_words state before lines) (λ l. y l.1))
+            (refl, z.0, z.1, refl, ap (refusal_told {A = Part}) z.2)
 
-      -- a part that was done, and where the next one goes on written into the words
-      pub reports_done : p.refused ≡ 0 → (state' : List ℕ) → state' ≡ splice state 0 (words_of p.place p.report)
-          → Reports file state state' before after lines lines' p.used 0
-      unfolding Reports Parted words_of
-      reports_done d state' e = go (decide (lends before lines))
-        where
-          place : p.place ≡ place_of state'
-          place = sym (place-written state p.place p.report) ∙ ap place_of (sym e)
+    -- a part that was done, and where the next one goes on written into the words
+    pub reports_done : (p : Part) → Parted file (place_of state) (report_of state) before after lines lines' (Ok p)
+        → (state' : List ℕ) → state' ≡ splice state 0 (words_of p.place p.report)
+        → Reports file state state' before after lines lines' p.used 0
+    unfolding Reports Parted words_of part_of
+    reports_done p x state' e = go (decide (lends before lines))
+      where
+        place : p.place ≡ place_of state'
+        place = sym (place-written state p.place p.report) ∙ ap place_of (sym e)
 
-          next : p.report ≡ report_of state'
-          next = sym (report-written state p.place p.report) ∙ ap report_of (sym e)
+        next : p.report ≡ report_of state'
+        next = sym (report-written state p.place p.report) ∙ ap report_of (sym e)
 
-          same : p ≡ record { refused = 0; used = p.used; place = place_of state'; report = report_of state' }
-          same i = record { refused = d i; used = p.used; place = place i; report = next i }
+        go : Case (lends before lines) → Reports file state state' before after lines lines' p.used 0
+        go (it_does y) =
+            let z = rw (passes (lends before lines) y) at x in
+            let same : z.0 ≡ record { used = p.used; place = place_of state'; report = report_of state' } =
+            ap (part_of p) (sym z.1) ∙ (λ i. record { used = p.used; place = place i; report = next i }) in
+            rw (passes (lends_words state before lines) (h, y)) (record {
+              reported = rw same at z.2;
+              code = ap code_in e ∙ code-written state p.place p.report ∙ ap (λ (q : Report). code_of q.stage) next;
+              done = refl;
+              long = rw e (splice-length state 0 (words_of p.place p.report) h);
+              past = rw e (rest-written state p.place p.report h);
+            })
+        go (it_does_not y) =
+            let z = rw (fails (lends before lines) y) at x in
+            absurd (omega (arith, ap (refusal_told {A = Part}) z.2))
 
-          go : Case (lends before lines) → Reports file state state' before after lines lines' p.used 0
-          go (it_does y) =
-              let z = rw (passes (lends before lines) y) at x in
-              rw (passes (lends_words state before lines) (h, y)) (record {
-                reported = rw same at z;
-                code = ap code_in e ∙ code-written state p.place p.report ∙ ap (λ (q : Report). code_of q.stage) next;
-                done = refl;
-                long = rw e (splice-length state 0 (words_of p.place p.report) h);
-                past = rw e (rest-written state p.place p.report h);
-              })
-          go (it_does_not y) =
-              let z = rw (fails (lends before lines) y) at x in
-              absurd (omega (arith, ap (λ (q : Part). q.refused) z.2, d))
+-- words that are the same up to the eighteenth say the same
+module _ (v w : List ℕ) (same : (k : ℕ) → k < words_of_class → get_or v k 0 ≡ get_or w k 0) where
+  pending_same : pending_of v ≡ pending_of w
+  unfolding pending_of
+  pending_same i =
+      choose (same 9 (omega arith) i ≐ 0) None
+      (Some (record {
+        learner = same 10 (omega arith) i;
+        turn = same 11 (omega arith) i;
+        place = same 12 (omega arith) i;
+        length = same 13 (omega arith) i;
+      }))
+
+  report_same : report_of v ≡ report_of w
+  unfolding report_of
+  report_same i = record {
+    stage = stage_of (same 0 (omega arith) i);
+    number = record { value = same 2 (omega arith) i; weight = same 3 (omega arith) i };
+    left = same 4 (omega arith) i;
+    learner = same 5 (omega arith) i;
+    turn = same 6 (omega arith) i;
+    length = same 7 (omega arith) i;
+    stop = same 8 (omega arith) i;
+    pending = pending_same i;
+    tally = record {
+      records = same 14 (omega arith) i;
+      refused = same 15 (omega arith) i;
+      starts = same 16 (omega arith) i;
+      dropped = same 17 (omega arith) i;
+    };
+  }
+
+-- the first words of a state are read and written as those of the state
+module _ (state : List ℕ) where
+  pub first_place : place_of (take words_of_class state) ≡ place_of state
+  unfolding place_of
+  first_place = get_or-take words_of_class state 1 0 (omega arith)
+
+  pub first_report : report_of (take words_of_class state) ≡ report_of state
+  first_report = report_same (take words_of_class state) state (λ k h. get_or-take words_of_class state k 0 h)
+
+  pub words-written : (place : ℕ) (r : Report) → words_of place r ++ drop words_of_class state ≡ splice state 0 (words_of place r)
+  unfolding splice words_of
+  words-written place r = refl
+
+-- whether somebody is pending, and that sheet, as the code tells them
+pub held_told : (q : Option Turned) → bool_byte (is_some q) ≡ held q
+unfolding held
+held_told None = refl
+held_told (Some p) = refl
+
+pub sheet_told : (q : Option Turned) → unwrap_or q (record { learner = 0; turn = 0; place = 0; length = 0 }) ≡ sheet_held q
+unfolding sheet_held
+sheet_told None = refl
+sheet_told (Some p) = refl

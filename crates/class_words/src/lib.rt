@@ -1,172 +1,145 @@
 #![tactic(auto)]
 
 // The class report part by part, with where it stands in lent words.
-ghost use Rattle.std.specs.Prelude.{◌≤◌, ◌≡◌, length};
-ghost use Rattle.number.specs.Number.{splice};
-ghost use Rattle.class_words.specs.Words.{code_of, stage_of, place_of, pending_of, report_of, held, sheet_held, pending_words};
-ghost use Rattle.class_words.specs.Words.{words_of, puts, Reports};
+ghost use Rattle.std.specs.Prelude.{◌≡◌};
+ghost use Rattle.class_words.specs.Words.{code_of, stage_of, place_of, pending_of, report_of, words_of, Reports};
 
-use class::{Pending, Report, Stage, Turned};
+use class::{Report, Stage, Turned};
 use number::Reader;
-use rules::refusals;
+use rules::Refusal;
 use sheet_counts::Tally;
 
 // How many words say where a report stands.
 pub const CLASS_WORDS: usize = 18;
 
-// What comes next, by its code; any other than those of the stages is the end.
+type Words = [u64; CLASS_WORDS];
+
+// What comes next by its code: codes are numbers, as C has them.
+const STAGES: [Stage; 9] = [
+    Stage::Head,
+    Stage::Count,
+    Stage::Learner,
+    Stage::Turn,
+    Stage::Length,
+    Stage::Sheet,
+    Stage::Last,
+    Stage::Nothing,
+    Stage::Line,
+];
+
+// What a code says; any other than those of the stages is the end.
 fn stage_of(code: u64) -> Stage
     ensures { result ≡ stage_of code }
 {
-    match code {
-        0 => Stage::Head,
-        1 => Stage::Count,
-        2 => Stage::Learner,
-        3 => Stage::Turn,
-        4 => Stage::Length,
-        5 => Stage::Sheet,
-        6 => Stage::Last,
-        8 => Stage::Line,
-        _ => Stage::Nothing,
-    }
+    STAGES.get(code as usize).copied().unwrap_or(Stage::Nothing)
 }
 
 fn code_of(stage: Stage) -> u64
     ensures { result ≡ code_of stage }
 {
-    match stage {
-        Stage::Head => 0,
-        Stage::Count => 1,
-        Stage::Learner => 2,
-        Stage::Turn => 3,
-        Stage::Length => 4,
-        Stage::Sheet => 5,
-        Stage::Last => 6,
-        Stage::Nothing => 7,
-        Stage::Line => 8,
-    }
+    stage as u64
 }
 
 // The place in the file where a report goes on.
-fn place_of(state: &[u64]) -> usize
-    requires { 18 ≤ length state.now }
-    ensures { result ≡ place_of state.now }
+fn place_of(words: &Words) -> usize
+    ensures { result ≡ place_of words.now }
 {
-    state[1] as usize
+    words[1] as usize
 }
 
 // The pending sheet that words say.
-fn pending_of(state: &[u64]) -> Pending
-    requires { 18 ≤ length state.now }
-    ensures { result ≡ pending_of state.now }
+fn pending_of(words: &Words) -> Option<Turned>
+    ensures { result ≡ pending_of words.now }
 {
-    if state[9] == 0 {
-        return Pending::Nobody;
+    if words[9] == 0 {
+        return None;
     }
-    let sheet = Turned {
-        learner: state[10],
-        turn: state[11],
-        place: state[12] as usize,
-        length: state[13],
-    };
-    Pending::Somebody(sheet)
+    Some(Turned {
+        learner: words[10],
+        turn: words[11],
+        place: words[12] as usize,
+        length: words[13],
+    })
 }
 
 // The report that words say.
-fn report_of(state: &[u64]) -> Report
-    requires { 18 ≤ length state.now }
-    ensures { result ≡ report_of state.now }
+fn report_of(words: &Words) -> Report
+    ensures { result ≡ report_of words.now }
 {
-    let stage = stage_of(state[0]);
-    let number = Reader {
-        value: state[2],
-        weight: state[3],
-    };
-    let pending = pending_of(state);
-    let tally = Tally {
-        records: state[14],
-        refused: state[15],
-        starts: state[16],
-        dropped: state[17],
-    };
+    let [
+        code,
+        _,
+        value,
+        weight,
+        left,
+        learner,
+        turn,
+        length,
+        stop,
+        _,
+        _,
+        _,
+        _,
+        _,
+        records,
+        refused,
+        starts,
+        dropped,
+    ] = *words;
     Report {
-        stage,
-        number,
-        left: state[4],
-        learner: state[5],
-        turn: state[6],
-        length: state[7],
-        stop: state[8],
-        pending,
-        tally,
-    }
-}
-
-// 1 if somebody is pending, else 0.
-fn is_held(pending: Pending) -> u64
-    ensures { result ≡ held pending }
-{
-    match pending {
-        Pending::Nobody => 0,
-        Pending::Somebody(_) => 1,
-    }
-}
-
-// The pending sheet; all of it is 0 where nobody is pending.
-fn sheet_held(pending: Pending) -> Turned
-    ensures { result ≡ sheet_held pending }
-{
-    match pending {
-        Pending::Nobody => Turned {
-            learner: 0,
-            turn: 0,
-            place: 0,
-            length: 0,
+        stage: stage_of(code),
+        number: Reader { value, weight },
+        left,
+        learner,
+        turn,
+        length,
+        stop,
+        pending: pending_of(words),
+        tally: Tally {
+            records,
+            refused,
+            starts,
+            dropped,
         },
-        Pending::Somebody(sheet) => sheet,
     }
 }
 
-// Writes the pending sheet.
-fn write_pending(state: &mut [u64], pending: Pending)
-    requires { 18 ≤ length state.old }
-    ensures { state.new ≡ puts state.old 9 (pending_words pending) }
+// The words of a report and its place; where nobody is pending all of the sheet is 0.
+fn words_of(place: usize, report: Report) -> Words
+    ensures { result ≡ words_of place report }
 {
-    let sheet = sheet_held(pending);
-    state[9] = is_held(pending);
-    state[10] = sheet.learner;
-    state[11] = sheet.turn;
-    state[12] = sheet.place as u64;
-    state[13] = sheet.length;
+    let nobody = Turned {
+        learner: 0,
+        turn: 0,
+        place: 0,
+        length: 0,
+    };
+    let sheet = report.pending.unwrap_or(nobody);
+    [
+        code_of(report.stage),
+        place as u64,
+        report.number.value,
+        report.number.weight,
+        report.left,
+        report.learner,
+        report.turn,
+        report.length,
+        report.stop,
+        u64::from(report.pending.is_some()),
+        sheet.learner,
+        sheet.turn,
+        sheet.place as u64,
+        sheet.length,
+        report.tally.records,
+        report.tally.refused,
+        report.tally.starts,
+        report.tally.dropped,
+    ]
 }
 
-// Writes where a report stands; the words past these stay.
-fn write_report(state: &mut [u64], place: usize, report: Report)
-    requires { 18 ≤ length state.old }
-    ensures { state.new ≡ splice state.old 0 (words_of place report) }
-{
-    let stage = report.stage;
-    let number = report.number;
-    let pending = report.pending;
-    let tally = report.tally;
-    state[0] = code_of(stage);
-    state[1] = place as u64;
-    state[2] = number.value;
-    state[3] = number.weight;
-    state[4] = report.left;
-    state[5] = report.learner;
-    state[6] = report.turn;
-    state[7] = report.length;
-    state[8] = report.stop;
-    write_pending(state, pending);
-    state[14] = tally.records;
-    state[15] = tally.refused;
-    state[16] = tally.starts;
-    state[17] = tally.dropped;
-}
-
-// A part of a class report: the refusal, 0 if done. `state` says where the report stands, eighteen words that are 0 before the
-// first part, and where the next part goes on; its first word is 7 when nothing is left. `used` becomes the length of the part's lines.
+// A part of a class report: the refusal's number, 0 if done, as C has it. `state` says where the report stands, eighteen words that
+// are 0 before the first part, and where the next part goes on; its first word is 7 when nothing is left. `used` becomes the length of
+// the part's lines.
 pub fn report_on(
     file: &[u8],
     state: &mut [u64],
@@ -178,17 +151,16 @@ pub fn report_on(
         lines.old lines.new used.new result }
 {
     *used = 0;
-    if state.len() < CLASS_WORDS {
-        return refusals::NO_ROOM;
+    let Some(words) = state.first_chunk_mut::<CLASS_WORDS>() else {
+        return u64::from(Refusal::NoRoom);
+    };
+    let place = place_of(words);
+    match class_parts::report_part(file, place, report_of(words), memory, lines) {
+        Ok(part) => {
+            *used = part.used;
+            *words = words_of(part.place, part.report);
+            0
+        }
+        Err(refusal) => u64::from(refusal),
     }
-    let place = place_of(state);
-    let report = report_of(state);
-    let part = class_parts::report_part(file, place, report, memory, lines);
-    if part.refused != 0 {
-        return part.refused;
-    }
-    let next = part.report;
-    *used = part.used;
-    write_report(state, part.place, next);
-    0
 }

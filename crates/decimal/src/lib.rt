@@ -1,11 +1,13 @@
 #![tactic(auto)]
 
-// Numbers in decimal digits, as the lines have them.
+// Numbers in decimal digits, as the lines have them. The loops divide a value and count no index. Memory and the place in it stay two
+// parameters, as C lends a memory with the length used.
 ghost use Rattle.std.specs.Prelude.{◌≡◌, ◌+◌, ◌≤◌, length};
 ghost use Rattle.number.specs.Number.{splice};
 ghost use Rattle.decimal.specs.Decimal.{decimal};
 
-// How many digits a number has.
+// How many digits a number has. `number::size` counts so to base 128: one function of both would need a count to any base, with its
+// laws, beside `decimal` and `encode`, and is no plainer.
 fn digits(v: u64) -> usize
     ensures { result ≡ length (decimal v) }
 {

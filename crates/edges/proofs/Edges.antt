@@ -1,8 +1,7 @@
 -- The table of document 01's edges holds.
-use Rattle.std.specs.Prelude.{[], ◌∷◌, ◌≡◌}
+use Rattle.std.specs.Prelude.{[], ◌∷◌, ◌≡◌, Ok}
 use Rattle.std.proofs.Common.{ap}
 use Rattle.number.specs.Number.{limit32, read_at, refusal_of}
-use Rattle.number.specs.declared.Reading.TheVariants.{Value}
 use Rattle.number.specs.Edges.{P6 as number-edge}
 use Rattle.rules.specs.Formula.{Holds}
 use Rattle.rules.specs.Edges.{p1, p2, p3, p4, p8, p8_then, p9, p10, ready_stays, grant_whole, first_claim}
@@ -14,7 +13,7 @@ use Rattle.edges.proofs.Filled.{filled}
 use Rattle.edges.specs.Empty.{empty_sheet}
 use Rattle.edges.specs.Edges.{Edges}
 
-number_read : (refusal_of (read_at limit32 (128 ∷ 0 ∷ []) 0) ≡ 4) × (read_at limit32 (128 ∷ 1 ∷ []) 0 ≡ Value 128 2)
+number_read : (refusal_of (read_at limit32 (128 ∷ 0 ∷ []) 0) ≡ 4) × (read_at limit32 (128 ∷ 1 ∷ []) 0 ≡ Ok (128, 2))
 unfolding refusal_of
 number_read = (ap refusal_of number-edge.0, number-edge.1)
 

@@ -1,8 +1,7 @@
 -- "Edges, marked P" (document 01), and its false roads, and document 02's counted events and climbs: one table and one theorem that all
 -- of it holds.
-use Rattle.std.specs.Prelude.{[], ◌∷◌, ◌≡◌}
+use Rattle.std.specs.Prelude.{[], ◌∷◌, ◌≡◌, Ok}
 use Rattle.number.specs.Number.{limit32, read_at, refusal_of}
-use Rattle.number.specs.declared.Reading.TheVariants.{Value}
 use Rattle.rules.specs.Edges.{p1, p2, p3, p4, p8, p8_then, p9, p10, ready_stays, grant_whole, first_claim}
 use Rattle.rules.specs.Edges.{counted_goes, counted_stays, counted_stays_then, climbs_none, climbs_on, climbs_to_main}
 use Rattle.sheet.specs.SheetPrinted.{output}
@@ -23,7 +22,7 @@ pub record Edges : Type 0 where
   -- handle 512 is made, the next gives 20
   pub P5 : Met p5
   -- bytes 128 0: refusal 4; 128 1 is 128
-  pub P6 : (refusal_of (read_at limit32 (128 ∷ 0 ∷ []) 0) ≡ 4) × (read_at limit32 (128 ∷ 1 ∷ []) 0 ≡ Value 128 2)
+  pub P6 : (refusal_of (read_at limit32 (128 ∷ 0 ∷ []) 0) ≡ 4) × (read_at limit32 (128 ∷ 1 ∷ []) 0 ≡ Ok (128, 2))
   -- empty sheet: `0 3 0`, then `1 0 0`
   pub P7 : output [] ≡ 48 ∷ 32 ∷ 51 ∷ 32 ∷ 48 ∷ 10 ∷ 49 ∷ 32 ∷ 48 ∷ 32 ∷ 48 ∷ 10 ∷ []
   -- finish task ends with a live grandchild: not fired; but it fires

@@ -5,3 +5,4 @@ pub mod Linking
 pub mod Delivering
 pub mod Ready
 pub mod Made
+pub mod MadeFirst

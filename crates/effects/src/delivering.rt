@@ -1,6 +1,5 @@
 // Delivering a link: operation 9.
-ghost use Rattle.std.specs.Prelude.{◌≤◌, length};
-ghost use Rattle.session.specs.Table.{read, words};
+ghost use Rattle.session.specs.Table.{read};
 ghost use Rattle.session.specs.Lent.{was, Becomes};
 ghost use Rattle.rules.specs.Formula.{Holds};
 ghost use Rattle.rules.specs.Sound.{sound};
@@ -9,11 +8,11 @@ ghost use Rattle.rules.specs.Effects as rules;
 ghost use Rattle.laws.specs.Met.{met};
 
 use crate::satisfying::satisfy_either;
-use session::Field;
+use session::{Field, Memory, names};
 
 // A counted event goes with the delivery of the last of its links, l. Internal, as `deliver` is.
-fn expire(s: &mut [u64], l: u64)
-    requires { (words ≤ length s.old) × Holds (sound (read s.old)) × met (deliver_checks (read s.old) l) }
+fn expire(s: &mut Memory, l: u64)
+    requires { Holds (sound (read s.old)) × met (deliver_checks (read s.old) l) }
     ensures { Becomes s.old s.new (rules.expire (was s.old) l) }
 {
     if reading::serves_last(s, l) {
@@ -22,14 +21,14 @@ fn expire(s: &mut [u64], l: u64)
             s,
             Field::EventState,
             source as usize,
-            session::names::DESTROYED_FIRED,
+            names::DESTROYED_FIRED,
         );
     }
 }
 
 // Marks link l as delivered and satisfies its destination, or drops the delivery. Internal, as `deliver` is.
-fn bring(s: &mut [u64], l: u64)
-    requires { (words ≤ length s.old) × Holds (sound (read s.old)) × met (deliver_checks (read s.old) l) }
+fn bring(s: &mut Memory, l: u64)
+    requires { Holds (sound (read s.old)) × met (deliver_checks (read s.old) l) }
     ensures { Becomes s.old s.new (rules.bring (was s.old) l) }
 {
     let at = l as usize;
@@ -39,17 +38,17 @@ fn bring(s: &mut [u64], l: u64)
     let p = session::get(s, Field::EventPayload, source as usize);
     let n = session::get(s, Field::Dropped, 0);
     let drops = reading::drops(s, d, j);
-    session::set(s, Field::LinkState, at, session::names::DELIVERED);
+    session::set(s, Field::LinkState, at, names::DELIVERED);
     if drops {
         session::set(s, Field::Dropped, 0, n + 1);
-        return;
+    } else {
+        satisfy_either(s, d, j, p);
     }
-    satisfy_either(s, d, j, p);
 }
 
-// 9 deliver (link). Internal: callers have shown the length, a sound session and the checks.
-pub fn deliver(s: &mut [u64], l: u64)
-    requires { (words ≤ length s.old) × Holds (sound (read s.old)) × met (deliver_checks (read s.old) l) }
+// 9 deliver (link). Internal: callers have shown a sound session and the checks.
+pub fn deliver(s: &mut Memory, l: u64)
+    requires { Holds (sound (read s.old)) × met (deliver_checks (read s.old) l) }
     ensures { Becomes s.old s.new (rules.deliver (was s.old) l) }
 {
     expire(s, l);

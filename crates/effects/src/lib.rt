@@ -1,7 +1,7 @@
 #![tactic(auto)]
 
 // What accepted operations that make and satisfy do to a session's memory: a function for each, by its name, and the parts that
-// others fire events with.
+// others fire events with. That the session is sound stays a clause: between two writes it is not.
 mod delivering;
 mod firing;
 mod linking;

@@ -1,7 +1,7 @@
 // Satisfying a pre-slot of a task or a slot of an event; operation 6.
-ghost use Rattle.std.specs.Prelude.{◌≡◌, ◌≤◌, length};
+ghost use Rattle.std.specs.Prelude.{◌≡◌, ◌≤◌};
 ghost use Rattle.session.specs.Names.{most_objects, top_tally};
-ghost use Rattle.session.specs.Table.{read, words};
+ghost use Rattle.session.specs.Table.{read};
 ghost use Rattle.session.specs.Lent.{was, Becomes};
 ghost use Rattle.session.specs.declared.Field.TheVariants.{TaskSlots};
 ghost use Rattle.rules.specs.Formula.{Holds, test};
@@ -13,33 +13,31 @@ ghost use Rattle.effects.specs.Satisfying.{Firable, Countable, Fillable, Trigger
 
 use crate::firing::fire_one;
 use reading::is_full;
-use session::Field;
+use session::{Field, Memory, names};
 
 // The same as `is_full`, with a look at the last pre-slot first: slots are mostly filled in turn, and then it is the one that is
 // empty. Internal, as `is_full` is.
-fn is_filled(s: &[u64], t: u64) -> bool
-    requires { (words ≤ length s.now) × (t ≤ most_objects) × (read s.now TaskSlots t ≤ 16) }
+fn is_filled(s: &Memory, t: u64) -> bool
+    requires { (t ≤ most_objects) × (read s.now TaskSlots t ≤ 16) }
     ensures { result ≡ test (full (was s.now) t) }
 {
     let n = session::get(s, Field::TaskSlots, t as usize) as usize;
-    if 0 < n {
-        if session::get(s, Field::SlotMark, t as usize * 16 + n - 1) == 0 {
-            return false;
-        }
+    if 0 < n && session::get(s, Field::SlotMark, t as usize * 16 + n - 1) == 0 {
+        return false;
     }
     is_full(s, t)
 }
 
-// Satisfies slot j of task t with p. Internal: callers have shown the length, the handle and the slot.
-fn satisfy_slot(s: &mut [u64], t: u64, j: u64, p: u64)
-    requires { (words ≤ length s.old) × (t ≤ most_objects) × Fillable (read s.old) t j }
+// Satisfies slot j of task t with p. Internal: callers have shown the handle and the slot.
+fn satisfy_slot(s: &mut Memory, t: u64, j: u64, p: u64)
+    requires { (t ≤ most_objects) × Fillable (read s.old) t j }
     ensures { Becomes s.old s.new (rules.satisfy_slot (was s.old) t j p) }
 {
     let at = t as usize * 16 + j as usize;
-    session::set(s, Field::SlotMark, at, session::names::SATISFIED);
+    session::set(s, Field::SlotMark, at, names::SATISFIED);
     session::set(s, Field::SlotPayload, at, p);
     if is_filled(s, t) {
-        session::set(s, Field::TaskState, t as usize, session::names::RESOLVED);
+        session::set(s, Field::TaskState, t as usize, names::RESOLVED);
     }
 }
 
@@ -48,57 +46,51 @@ fn next_tally(n: u64, j: u64) -> u64
     requires { (n ≤ top_tally) × (j ≡ 0 → 1 ≤ n) }
     ensures { result ≡ next_tally n j }
 {
-    if j == 0 {
-        return n - 1;
-    }
-    n + 1
+    if j == 0 { n - 1 } else { n + 1 }
 }
 
-// Counts latch e by its slot j, and fires it at the count 0. Internal: callers have shown the length, the handle, the links
-// and the latch's range.
-fn tally(s: &mut [u64], e: u64, j: u64)
-    requires { (words ≤ length s.old) × Firable (read s.old) e × Countable (read s.old) e j }
+// Counts latch e by its slot j, and fires it at the count 0. Internal: callers have shown the handle, the links and the
+// latch's range.
+fn tally(s: &mut Memory, e: u64, j: u64)
+    requires { Firable (read s.old) e × Countable (read s.old) e j }
     ensures { Becomes s.old s.new (rules.tally (was s.old) e j) }
 {
     let at = e as usize;
     let n = next_tally(session::get(s, Field::EventTally, at), j);
     session::set(s, Field::EventTally, at, n);
-    if n == session::names::EVEN_TALLY {
+    if n == names::EVEN_TALLY {
         fire_one(s, e, 0);
     }
 }
 
-// Satisfies slot j of event e with p. Internal: callers have shown the length, the handle, the links and, of a latch, its range.
-fn satisfy_event(s: &mut [u64], e: u64, j: u64, p: u64)
-    requires { (words ≤ length s.old) × Triggerable (read s.old) e j }
+// Satisfies slot j of event e with p. Internal: callers have shown the handle, the links and, of a latch, its range.
+fn satisfy_event(s: &mut Memory, e: u64, j: u64, p: u64)
+    requires { Triggerable (read s.old) e j }
     ensures { Becomes s.old s.new (rules.satisfy_event (was s.old) e j p) }
 {
     let at = e as usize;
-    if session::get(s, Field::EventType, at) == session::names::LATCH {
+    if session::get(s, Field::EventType, at) == names::LATCH {
         tally(s, e, j);
-        return;
+    } else if session::get(s, Field::EventState, at) != names::FIRED {
+        fire_one(s, e, p);
     }
-    if session::get(s, Field::EventState, at) == session::names::FIRED {
-        return;
-    }
-    fire_one(s, e, p);
 }
 
-// Satisfies slot j of task or event d with p. Internal: callers have shown the length and what `Satisfiable` says.
-pub fn satisfy_either(s: &mut [u64], d: u64, j: u64, p: u64)
-    requires { (words ≤ length s.old) × Satisfiable (read s.old) d j }
+// Satisfies slot j of task or event d with p. Internal: callers have shown what `Satisfiable` says.
+pub fn satisfy_either(s: &mut Memory, d: u64, j: u64, p: u64)
+    requires { Satisfiable (read s.old) d j }
     ensures { Becomes s.old s.new (rules.satisfy (was s.old) d j p) }
 {
-    if session::get(s, Field::Kind, d as usize) == session::names::TASK {
+    if session::get(s, Field::Kind, d as usize) == names::TASK {
         satisfy_slot(s, d, j, p);
-        return;
+    } else {
+        satisfy_event(s, d, j, p);
     }
-    satisfy_event(s, d, j, p);
 }
 
-// 6 satisfy (caller, event, block or 0, slot). Internal: callers have shown the length, a sound session and the checks.
-pub fn satisfy(s: &mut [u64], caller: u64, e: u64, b: u64, j: u64)
-    requires { (words ≤ length s.old) × Holds (sound (read s.old)) × met (satisfy_checks (read s.old) caller e b j) }
+// 6 satisfy (caller, event, block or 0, slot). Internal: callers have shown a sound session and the checks.
+pub fn satisfy(s: &mut Memory, caller: u64, e: u64, b: u64, j: u64)
+    requires { Holds (sound (read s.old)) × met (satisfy_checks (read s.old) caller e b j) }
     ensures { Becomes s.old s.new (rules.satisfy_event (was s.old) e j b) }
 {
     satisfy_event(s, e, j, b);

@@ -7,8 +7,8 @@ use Rattle.session.specs.Table.{Session, Wrote, read, words, pick}
 use Rattle.session.specs.TableLaws.{wrote_none, wrote_then}
 use Rattle.session.specs.Fresh.{Leaves}
 use Rattle.rules.specs.declared.Operation.{Operation}
-use Rattle.rules.specs.declared.Answer.{Answer}
-use Rattle.rules.specs.declared.Answer.TheVariants.{Accepted, Refused}
+use Rattle.rules.specs.Answer.{Answer}
+use Rattle.rules.specs.Answer.{Answer.Accepted, Answer.Refused}
 use Rattle.rules.specs.Formula.{test, Formula.◌≐◌}
 use Rattle.rules.specs.Answer.{answer_of}
 use Rattle.rules.specs.Step.{Reply, fresh_session, step}

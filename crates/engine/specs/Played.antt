@@ -1,16 +1,20 @@
 -- What running an operation on lent memory answers and leaves.
-use Rattle.std.specs.Prelude.{ℕ, ◌≤◌, ◌<◌, ◌≡◌, refl, true, false, List, length, leb}
+use Rattle.std.specs.Prelude.{ℕ, ◌≤◌, ◌<◌, ◌≡◌, refl, true, false, List, ◌++◌, length, take, drop, leb, Result, Result.Ok, Result.Err}
 use Rattle.std.proofs.Common.{ap, sym, subst, ◌∙◌, arith, le-leb}
 use Rattle.std.proofs.Math.ListN.{get_or-eq_default}
 use Rattle.std.proofs.lemmas.Bool.{lt-leb}
+use Rattle.std.proofs.lemmas.List.{take-append-drop}
+use Rattle.std.specs.Result.{IsErrAnd}
 use Rattle.session.specs.Table.{Session, Wrote, read, words, pick}
 use Rattle.session.specs.TableLaws.{wrote_none}
+use Rattle.session.specs.First.{read_first, wrote_first}
 use Rattle.rules.specs.declared.Operation.{Operation}
-use Rattle.rules.specs.declared.Answer.{Answer}
-use Rattle.rules.specs.declared.Answer.TheVariants.{Accepted, Refused}
+use Rattle.rules.specs.Answer.{Answer, answer_told, Answer.Accepted, Answer.Refused}
 use Rattle.rules.specs.Formula.{Holds, test, choose, Formula.◌≐◌}
 use Rattle.rules.specs.FormulaLaws.{choose_yes, choose_no, passed, failed}
 use Rattle.rules.specs.Checks.{refusal}
+use Rattle.rules.specs.declared.refusals.Refusal.{Refusal}
+use Rattle.rules.specs.Refusals.{number, number_some}
 use Rattle.rules.specs.Answer.{refused_of, made_of, answer_of, answer-accepted, answer-refused, refused-told, made_told}
 use Rattle.rules.specs.Sound.{sound}
 use Rattle.rules.specs.Step.{Reply, Rule, rules, last_code, rule_of, unknown, answer, after, outcome, step}
@@ -69,6 +73,13 @@ played_refused rule o ws n e z =
       stays = λ _. refl;
     }
 
+-- the same, as a function gives it that passes on the refusal of its checks
+pub played_err : (rule : Rule) (o : Operation) (ws : List ℕ) (r : Refusal) (result : Result ℕ Refusal)
+    → number r ≡ refusal (rule.asks (read ws) o) → IsErrAnd result (λ q. q ≡ r) → Played rule o ws ws (answer_told result)
+played_err rule o ws r (Ok m) e x = absurd x
+played_err rule o ws r (Err q) e x =
+    played_refused rule o ws (number q) (ap number x ∙ e) (λ z. let some = number_some q in omega arith)
+
 -- an operation accepted
 pub played_accepted : (rule : Rule) (o : Operation) (before after : List ℕ) (m : ℕ) → refusal (rule.asks (read before) o) ≡ 0
     → m ≡ rule.makes (read before) o → Wrote before after (rule.does (read before) o) → Played rule o before after (Accepted m)
@@ -100,6 +111,18 @@ pub replied : (before after : List ℕ) (r : Answer) (op : Operation) → Holds 
     → Replied before after r (step (read before) op)
 unfolding reply_by answer after outcome
 replied before after r op h p = rw (step-sound (read before) op h) p
+
+-- what was played on the first words was played on the memory
+pub replied_first : (ws ws' : List ℕ) (r : Answer) (op : Operation) → words ≤ length ws
+    → Replied (take words ws) ws' r (step (read (take words ws)) op)
+    → Replied ws (ws' ++ drop words ws) r (step (read ws) op)
+replied_first ws ws' r op long p =
+    let q : Replied (take words ws) ws' r (step (read ws) op) = rw (read_first ws) at p in
+    record {
+      answer = q.answer;
+      leaves = wrote_first ws ws' _ long q.leaves;
+      stays = λ n. rw (q.stays n) (take-append-drop words ws);
+    }
 
 -- memory too short, a session not sound, and one that is
 pub answered_short : (ws : List ℕ) (op : Operation) → length ws < words → Answered ws ws op (Refused 1)

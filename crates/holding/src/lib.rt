@@ -1,7 +1,7 @@
 #![tactic(auto)]
 
 // What accepted operations that hold blocks and let go of them do to a session's memory: a function for each, by its name, and
-// the parts that others let go with.
+// the parts that others let go with. That the session is sound stays a clause: between two writes it is not.
 mod granting;
 mod letting;
 

@@ -3,8 +3,8 @@ use Rattle.std.specs.Prelude.{ℕ, ◌≡◌, Bool, true, false, List, [], ◌�
 use Rattle.std.proofs.Common.{ap, ◌∙◌}
 use Rattle.session.specs.Table.{Wrote, read, words, pick}
 use Rattle.rules.specs.declared.Operation.{Operation}
-use Rattle.rules.specs.declared.Answer.{Answer}
-use Rattle.rules.specs.declared.Answer.TheVariants.{Refused}
+use Rattle.rules.specs.Answer.{Answer}
+use Rattle.rules.specs.Answer.{Answer.Refused}
 use Rattle.rules.specs.Answer.{refused_of, made_of}
 use Rattle.rules.specs.Step.{step}
 use Rattle.engine.specs.Played.{Replied, Answered, numbers}

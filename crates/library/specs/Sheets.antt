@@ -1,7 +1,6 @@
 -- How a sheet's run ended, by its four numbers, and the last line, by its two.
 use Rattle.std.specs.Prelude.{ℕ}
-use Rattle.sheet.specs.declared.Ended.{Ended}
-use Rattle.sheet.specs.declared.Closed.{Closed}
+use Rattle.sheet.specs.Told.{Ended, Closed}
 
 abbrev pub ended_by : ℕ → ℕ → ℕ → ℕ → Ended
 ended_by used place number ending = record { used = used; place = place; number = number; ending = ending }

@@ -4,7 +4,8 @@
 ghost use Rattle.std.specs.Prelude.{◌≡◌};
 ghost use Rattle.session.specs.Table.{read, pick};
 ghost use Rattle.session.specs.Fresh.{Leaves, refused_length, fresh_session};
-ghost use Rattle.rules.specs.Answer.{refused_of, made_of};
+ghost use Rattle.rules.specs.Refusals.{refusal_told};
+ghost use Rattle.rules.specs.Answer.{answer_told, refused_of, made_of};
 ghost use Rattle.sound.specs.RulesInOrder.{sound_memory};
 ghost use Rattle.sheet.specs.WholeSheet.{Ran};
 ghost use Rattle.sheet.specs.Closing.{Closes};
@@ -12,39 +13,50 @@ ghost use Rattle.class_words.specs.Words.{Reports};
 ghost use Rattle.library.specs.Called.{Called, operation};
 ghost use Rattle.library.specs.Sheets.{ended_by, closed_by};
 
-use rules::{Answer, Operation};
+use rules::{Operation, Refusal};
+use session::TooShort;
+
+// A refusal as document 01 has it: its number, 0 where there is none.
+fn number_of(ending: Result<(), Refusal>) -> u64
+    ensures { result ≡ refusal_told ending }
+{
+    match ending {
+        Ok(_) => 0,
+        Err(refusal) => u64::from(refusal),
+    }
+}
 
 // Writes a fresh session: the refusal, 0 if done; 1 where the memory is too short, which then stays as it was.
 pub fn faltxigor_fresh(memory: &mut [u64]) -> u64
     ensures answer { result ≡ refused_length memory.old }
     ensures memory { Leaves memory.old memory.new fresh_session }
 {
-    session::write_fresh(memory)
+    match session::write_fresh(memory) {
+        Ok(()) => 0,
+        Err(TooShort) => u64::from(Refusal::NoRoom),
+    }
 }
 
 // A question: whether the words are a sound session, 1 or 0.
 pub fn faltxigor_sound(memory: &[u64]) -> u64
     ensures { result ≡ pick (sound_memory memory.now) 1 0 }
 {
-    if !sound::is_sound(memory) {
-        return 0;
-    }
-    1
+    u64::from(sound::is_sound(memory))
 }
 
 // An answer as document 01 has it: the refusal, 0 if accepted, and what was made or the steps climbed, or 0, into `made`.
-pub fn tell(answer: Answer, made: &mut u64) -> u64
-    ensures refused { result ≡ refused_of answer }
-    ensures made { made.new ≡ made_of answer }
+pub fn tell(answer: Result<u64, Refusal>, made: &mut u64) -> u64
+    ensures refused { result ≡ refused_of (answer_told answer) }
+    ensures made { made.new ≡ made_of (answer_told answer) }
 {
     match answer {
-        Answer::Accepted(m) => {
+        Ok(m) => {
             *made = m;
             0
         }
-        Answer::Refused(n) => {
+        Err(refusal) => {
             *made = 0;
-            n
+            u64::from(refusal)
         }
     }
 }
@@ -83,19 +95,24 @@ pub fn faltxigor_run(
     ensures { Ran sheet.now memory.old memory.new lines.old lines.new used.old (ended_by used.new place.new number.new result) (read memory.old) }
 {
     let ended = sheet::run(sheet, memory, lines, *used);
+    let ending = number_of(ended.ending);
     *used = ended.used;
     *place = ended.place;
     *number = ended.number;
-    ended.ending
+    ending
 }
 
 // The last line of a sheet behind the lines there: the refusal, 0 if done. `used` becomes the lines' length.
 pub fn faltxigor_last_line(memory: &[u64], lines: &mut [u8], used: &mut usize) -> u64
     ensures { Closes memory.now lines.old lines.new used.old (closed_by result used.new) }
 {
-    let closed = sheet::put_last_line(memory, lines, *used);
-    *used = closed.used;
-    closed.refused
+    match sheet::put_last_line(memory, lines, *used) {
+        Ok(longer) => {
+            *used = longer;
+            0
+        }
+        Err(refused) => u64::from(refused),
+    }
 }
 
 // A part of a class report: the refusal, 0 if done. `state` says where the report stands, eighteen words that are 0 before the

@@ -1,6 +1,7 @@
 #![tactic(auto)]
 
-// The lines that a sheet prints: three numbers in decimal, apart by a space, and a newline.
+// The lines that a sheet prints: three numbers in decimal, apart by a space, and a newline. Memory and the place in it stay two
+// parameters, as C lends a memory with the length used.
 ghost use Rattle.std.specs.Prelude.{◌≡◌, ◌+◌, ◌≤◌, length};
 ghost use Rattle.number.specs.Number.{splice};
 ghost use Rattle.lines.specs.Line.{marked, line};

@@ -5,10 +5,8 @@ use Rattle.rules.specs.declared.Operation.{Operation}
 use Rattle.rules.specs.Formula.{choose, Formula.◌≐◌}
 use Rattle.rules.specs.Step.{arg}
 use Rattle.rules.specs.Arity.{field_count, name_of}
-use Rattle.record.specs.RecordReading.{edition_of}
+use Rattle.record.specs.RecordReading.{edition_of, Place, Behind, Refused}
 use Rattle.record.specs.Sheet.{Contents, records_from, head_at}
-use Rattle.record.specs.declared.Place.{Place}
-use Rattle.record.specs.declared.Place.TheVariants.{Behind, Refused}
 
 abbrev pub newline : List ℕ
 newline = 10 ∷ []

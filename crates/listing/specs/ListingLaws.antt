@@ -5,19 +5,18 @@ use Rattle.std.specs.Prelude.{◌≡◌}
 use Rattle.std.proofs.Math.Path.{refl, ap}
 use Rattle.std.proofs.Common.{sym, ◌∙◌, add-one, length-append}
 use native.Mathlib.Omega.{arith}
-use Rattle.std.proofs.Math.ListN.{length}
+use Rattle.std.proofs.Math.ListN.{length, get_or, take}
+use Rattle.std.proofs.lemmas.List.{get_or-take, length-take-le}
 use Rattle.decimal.specs.Decimal.{decimal}
 use Rattle.rules.specs.declared.Operation.{Operation}
 use Rattle.rules.specs.Formula.{test, Formula.◌≐◌, Formula.◌≼◌}
 use Rattle.rules.specs.FormulaLaws.{Case, decide, choose_yes, choose_no, Case.it_does, Case.it_does_not}
 use Rattle.rules.specs.Step.{arg}
-use Rattle.record.specs.declared.Record.{Record}
+use Rattle.record.specs.RecordReading.{Record, edition_of, record_at, Behind, Refused}
 use Rattle.rules.specs.Arity.{field_count, name_of}
-use Rattle.record.specs.RecordReading.{edition_of, record_at}
 use Rattle.record.specs.RecordRoundTrip.{Forward, record_forward}
 use Rattle.record.specs.Sheet.{followed, records_from, head_at}
 use Rattle.record.specs.SheetLaws.{followed_on, followed_stop}
-use Rattle.record.specs.declared.Place.TheVariants.{Behind, Refused}
 use Rattle.text.specs.Put.{Put, put_then}
 use Rattle.listing.specs.Listing.{first_line, field_text, fields_text, line, lines, refusal_line, records_text}
 use Rattle.listing.specs.Listing.{text_from, text_of}
@@ -53,6 +52,8 @@ pub field_length : (v : ℕ) → length (field_text v) ≡ 1 + length (decimal v
 unfolding field_text
 field_length v = simp length-append
 
+pub ruleset lengths = (refusal-length, field_length)
+
 pub fields_none : (f : ℕ → ℕ) → fields_text 0 f ≡ []
 unfolding fields_text
 fields_none f = refl
@@ -75,6 +76,18 @@ fields-room (suc n) k f h = go (decide (k ≐ n)) (λ l. fields-room n k f l)
         → length (fields_text k f) + length (field_text (f k)) ≤ length (fields_text n f ++ field_text (f n))
     go (it_does e) before = rw (e, length-append) (omega arith)
     go (it_does_not u) before = rw length-append (omega (arith, before (omega (arith, u))))
+
+-- the first of some fields are told by their part alone
+fields_same : (n : ℕ) (f g : ℕ → ℕ) → ((k : ℕ) → k < n → f k ≡ g k) → fields_text n f ≡ fields_text n g
+unfolding fields_text
+fields_same zero f g same = refl
+fields_same (suc n) f g same =
+    rw (fields_same n f g (λ k l. same k (omega arith)), same n (omega arith)) refl
+
+pub fields-front : (n : ℕ) (fields : List ℕ) → n ≤ length fields
+    → fields_text (length (take n fields)) (λ k. get_or (take n fields) k 0) ≡ fields_text n (λ k. get_or fields k 0)
+fields-front n fields h =
+    rw (length-take-le n fields h) (fields_same n _ _ (λ k l. get_or-take n fields k 0 l))
 
 -- The text of the records that are left from a place on, the next of them number k. As each takes a byte at least, the sheet's
 -- length less the records before it are steps enough.

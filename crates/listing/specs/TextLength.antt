@@ -10,11 +10,8 @@ use Rattle.rules.specs.declared.Operation.{Operation}
 use Rattle.rules.specs.Formula.{Holds, test, Formula.each, Formula.◌≐◌, Formula.◌≼◌}
 use Rattle.rules.specs.FormulaLaws.{Case, decide, passed, choose_yes, choose_no, Case.it_does, Case.it_does_not}
 use Rattle.rules.specs.Step.{arg, last_code, last_edition}
-use Rattle.record.specs.declared.Place.{Place}
-use Rattle.record.specs.declared.Place.TheVariants.{Behind, Refused}
-use Rattle.record.specs.declared.Record.{Record}
+use Rattle.record.specs.RecordReading.{Place, Behind, Refused, Record, placed, edition_of, record_at}
 use Rattle.rules.specs.Arity.{is_code, field_count, name_of, fields_some}
-use Rattle.record.specs.RecordReading.{placed, edition_of, record_at}
 use Rattle.record.specs.Writing.{field_bytes, record_bytes}
 use Rattle.record.specs.Sheet.{head_at, head_checks, head_refusal, first_record, records_from}
 use Rattle.record.specs.Refusals.{refusal-most}

@@ -1,99 +1,109 @@
 -- One step of each loop of the code.
-use Prim.Native.Nat.{ℕ, zero, suc, ◌+◌, ◌-◌, ◌*◌, ◌/◌, ◌%◌, ◌≤◌, ◌<◌}
+use Prim.Native.Nat.{ℕ, suc, ◌+◌, ◌-◌, ◌*◌, ◌/◌, ◌%◌, ◌≤◌, ◌<◌}
 use mathlib.Core.Bool.{true, false}
-use mathlib.Core.List.{List, [], ◌∷◌}
+use mathlib.Core.List.{List, [], ◌∷◌, ◌++◌, append_assoc, append-nil}
+use mathlib.Core.Logic.{◌⊎◌, inl, inr}
 use mathlib.Core.Path.{◌≡◌, refl, ap, sym, ◌∙◌}
 use native.Mathlib.Omega.{arith}
 use native.Mathlib.Numerals.{add-one}
-use lib.ListN.{length, get_or, take, drop, length-drop, drop_of_length-le}
-use lib.Seq.{drop-cons, drop-length}
+use lib.ListN.{length, get_or, take, drop, length-append}
 use borrow.Author.Tests.{lt-ltb, le-ltb}
+use Rattle.std.specs.Prelude.{Option, Some, None, Err}
+use Rattle.std.specs.List.{AllWithin, HoldsAt}
+use Rattle.std.specs.Option.{MatchOption, unwrap_or}
+use Rattle.std.proofs.lemmas.Iterator.{index_from_first}
 use Rattle.number.specs.Number.{more, value, last_byte, shortest, judged, read_at}
 use Rattle.number.specs.Decode.{more_last, more_on, shortest_several}
-use Rattle.number.specs.Fed.{group_fits, fed}
-use Rattle.number.specs.FedCases.{short_first, short_zero, fed_long, fed-whole}
+use Rattle.number.specs.Fed.{group_fits, short_end, fed}
+use Rattle.number.specs.FedCases.{short_first, short_zero, short_nonzero, fed_long, fed-whole}
 use Rattle.number.specs.declared.reader.Reader.{Reader}
 use Rattle.number.specs.declared.reader.Fed.TheVariants.{Whole, Bad as BadFed}
 use Rattle.number.specs.NumberCases.{judged-above, read_ends, read-cut}
-use Rattle.number.specs.declared.Reading.TheVariants.{Bad, CutShort}
+use Rattle.number.specs.declared.Unread.TheVariants.{Bad, CutShort}
 
--- The search for the last byte: a byte with the high bit set is passed, and any other is the last.
-more-step : (bytes : List ℕ) (i : ℕ)
-    → i < length bytes
-    → 128 ≤ get_or bytes i 0
-    → more (drop i bytes) ≡ suc (more (drop (i + 1) bytes))
-more-step bytes i h l = rw (add-one, drop-cons bytes i 0 h) (more_on (get_or bytes i 0) (drop (suc i) bytes) l)
+-- The search for the last byte: the bytes in front of it all have the high bit set.
+module _ (bytes : List ℕ) where
+  abbrev AllHigh : ℕ → Type 0
+  AllHigh i = AllWithin (λ b. 128 ≤ b) bytes 0 i
 
-more_stop : (bytes : List ℕ) (i : ℕ) → i < length bytes → get_or bytes i 0 < 128 → more (drop i bytes) ≡ 0
-more_stop bytes i h l = rw (drop-cons bytes i 0 h) (more_last (get_or bytes i 0) (drop (suc i) bytes) l)
+  abbrev LastAt : ℕ → Type 0
+  LastAt i = (i < length bytes) × HoldsAt (λ b. b < 128) bytes i × AllHigh i
 
--- the bytes from the place at up to the place last all have the high bit set
-pub record Passed (bytes : List ℕ) (at last : ℕ) : Type 0 where
-  pub from : at ≤ last
-  pub count : more (drop at bytes) + at ≡ last + more (drop last bytes)
+  more_first : (found : Option ℕ) → MatchOption found (AllHigh (length bytes)) LastAt → more bytes ≡ unwrap_or found (length bytes)
+  unfolding more
+  more_first found h =
+      index_from_first more (λ b. b < 128) (λ b. 128 ≤ b) refl (λ b bs l. more_last b bs l)
+      (λ b bs l. more_on b bs l ∙ sym (add-one (more bs)))
+      bytes
+      found
+      h
 
-pub passed_none : (bytes : List ℕ) (at : ℕ) → Passed bytes at at
-passed_none bytes at = omega arith
+  pub last_found : (found : Option ℕ)
+      → MatchOption found (AllHigh (length bytes)) LastAt
+      → MatchOption found (length bytes ≤ more bytes) (λ i. (more bytes ≡ i) × (i < length bytes))
+  last_found None h = omega (arith, more_first None h)
+  last_found (Some i) h = (more_first (Some i) h, h.0)
 
-pub passed_more : (bytes : List ℕ) (at last : ℕ)
-    → last < length bytes
-    → 128 ≤ get_or bytes last 0
-    → Passed bytes at last
-    → Passed bytes at (last + 1)
-passed_more bytes at last h l p = omega (arith, more-step bytes last h l)
+-- what stands at a place, by the bytes from there on: a last byte is found, or none
+module _ (limit : ℕ) (bytes : List ℕ) (at : ℕ) (rest : List ℕ) (from : drop at bytes ≡ rest) where
+  pub read_last : (last : ℕ)
+      → more rest ≡ last
+      → last < length rest
+      → judged limit (take (last + 1) rest) (at + last + 1) ≡ read_at limit bytes at
+  read_last last m h =
+      let n : at + last + 1 ≡ at + suc last = omega arith in
+      rw (n, add-one last) (sym (read_ends limit bytes at (rw from (omega arith)) ∙ rw (from, m)))
 
-pub read_last : (limit : ℕ) (bytes : List ℕ) (at last : ℕ)
-    → last < length bytes
-    → get_or bytes last 0 < 128
-    → Passed bytes at last
-    → read_at limit bytes at ≡ judged limit (take (last + 1 - at) (drop at bytes)) (last + 1)
-read_last limit bytes at last h l p =
-    let s = more_stop bytes last h l in
-    let n : suc (more (drop at bytes)) ≡ last + 1 - at = omega (arith, s) in
-    let m : at + suc (more (drop at bytes)) ≡ last + 1 = omega (arith, s) in
-    let k : more (drop at bytes) < length (drop at bytes) = omega (arith, s, length-drop at bytes) in
-    rw (read_ends limit bytes at k, m, n)
+  pub read_none : length rest ≤ more rest → Err CutShort ≡ read_at limit bytes at
+  read_none h = sym (read-cut limit bytes at (rw from h))
 
-pub read_none : (limit : ℕ) (bytes : List ℕ) (at last : ℕ)
-    → length bytes ≤ last
-    → Passed bytes at last
-    → read_at limit bytes at ≡ CutShort
-unfolding more
-read_none limit bytes at last h p =
-    let z : more (drop last bytes) ≡ 0 = rw (drop_of_length-le bytes h) in
-    read-cut limit bytes at (omega (arith, z, length-drop at bytes))
+-- The groups summed so far are those behind the bytes that are left.
+pub record Summed (number left : List ℕ) (v : ℕ) : Type 0 where
+  pub taken : List ℕ
+  pub stands : number ≡ left ++ taken
+  pub sum : v ≡ value taken
 
--- The sum of the groups: one more below those that are summed.
-pub value-step : (number : List ℕ) (i : ℕ)
-    → 0 < i
-    → i ≤ length number
-    → value (drop i number) * 128 + get_or number (i - 1) 0 % 128 ≡ value (drop (i - 1) number)
+pub summed_none : (number left : List ℕ) → left ≡ number → Summed number left 0
 unfolding value
-value-step number i p h =
-    let e : suc (i - 1) ≡ i = omega arith in
-    let next : value (drop (suc (i - 1)) number) ≡ value (drop i number) = ap (λ (n : ℕ). value (drop n number)) e in
-    omega (arith, ap value (drop-cons number (i - 1) 0 (omega arith)), next)
+summed_none number left e = record { taken = []; stands = sym (rw append-nil e); sum = refl }
 
-pub value_none : (number : List ℕ) → 0 ≡ value (drop (length number) number)
+pub summed_more : (number left rest : List ℕ) (byte v g : ℕ)
+    → left ≡ rest ++ byte ∷ []
+    → g ≡ byte % 128
+    → Summed number left v
+    → Summed number rest (v * 128 + g)
 unfolding value
-value_none number = rw drop-length
+summed_more number left rest byte v g e h s = record {
+  taken = byte ∷ s.taken;
+  stands = s.stands ∙ rw e (append_assoc rest (byte ∷ []) s.taken);
+  sum = omega (arith, s.sum);
+}
 
--- the groups summed so far already tell that the value is above the limit
-value-part : (bs : List ℕ) (i : ℕ) → 128 * value (drop (suc i) bs) ≤ value bs
+pub summed_all : (number left : List ℕ) (v : ℕ) → length left ≡ 0 → Summed number left v → v ≡ value number
+summed_all number [] v z s = s.sum ∙ ap value (sym s.stands)
+summed_all number (b ∷ bs) v z s = absurd (no z)
+  where
+    no : suc (length bs) ≡ 0 → ⊥
+    no z = omega arith
+
+-- where a byte is left, they already tell that the value is above the limit
+value-part : (left taken : List ℕ) → 0 < length left → 128 * value taken ≤ value (left ++ taken)
 unfolding value
-value-part [] i = omega arith
-value-part (b ∷ bs) zero = omega arith
-value-part (b ∷ bs) (suc i) = omega (arith, value-part bs i)
-
-pub judged_early : (limit : ℕ) (number : List ℕ) (next i : ℕ)
-    → 0 < i
-    → limit / 128 < value (drop i number)
-    → judged limit number next ≡ Bad next
-judged_early limit number next zero p h = absurd (no p)
+value-part [] taken h = absurd (no h)
   where
     no : 0 < 0 → ⊥
-    no p = omega arith
-judged_early limit number next (suc i) p h = judged-above limit number next (omega (arith, value-part number i))
+    no h = omega arith
+value-part (b ∷ []) taken h = omega arith
+value-part (b ∷ c ∷ left) taken h = omega (arith, value-part (c ∷ left) taken (omega arith))
+
+pub judged_early : (limit : ℕ) (number left rest : List ℕ) (byte v next : ℕ)
+    → left ≡ rest ++ byte ∷ []
+    → limit / 128 < v
+    → Summed number left v
+    → judged limit number next ≡ Err (Bad next)
+judged_early limit number left rest byte v next e h s =
+    let some : 0 < length left = omega (arith, ap length e, length-append rest (byte ∷ [])) in
+    judged-above limit number next (omega (arith, value-part left s.taken some, s.sum, ap value s.stands))
 
 -- The test of the shortest form looks at the last byte.
 last_byte-at : (bs : List ℕ) → 0 < length bs → last_byte bs ≡ get_or bs (length bs - 1) 0
@@ -119,10 +129,14 @@ shortest_no number h e = shortest_several number h ∙ le-ltb 0 (last_byte numbe
 pub fed_zero : (limit : ℕ) (r : Reader) (byte : ℕ) → byte < 128 → byte ≡ 0 → 1 < r.weight → BadFed ≡ fed limit r byte
 fed_zero limit r byte l z w = sym (fed_long limit r byte l (short_zero r byte w z))
 
-pub fed_first : (limit : ℕ) (r : Reader) (byte g : ℕ)
+pub fed_short : (limit : ℕ) (r : Reader) (byte g : ℕ)
     → byte < 128
     → g ≡ byte % 128
     → group_fits limit r byte ≡ true
-    → r.weight ≤ 1
+    → (byte ≡ 0 × r.weight ≤ 1) ⊎ (byte ≡ 0 → ⊥)
     → Whole (r.value + g * r.weight) ≡ fed limit r byte
-fed_first limit r byte g l e f w = rw e (sym (fed-whole limit r byte l f (short_first r byte w)))
+fed_short limit r byte g l e f s = rw e (sym (fed-whole limit r byte l f (short s)))
+  where
+    short : (byte ≡ 0 × r.weight ≤ 1) ⊎ (byte ≡ 0 → ⊥) → short_end r byte ≡ true
+    short (inl first) = short_first r byte first.1
+    short (inr n) = short_nonzero r byte (omega (arith, n))

@@ -1,8 +1,8 @@
 -- A number that is read byte by byte, as its bytes come. The groups come lowest first, so that between two bytes the value so
 -- far and the weight of the next group are kept.
-use Rattle.std.specs.Prelude.{ℕ, ◌+◌, ◌*◌, ◌%◌, Bool, true, false, List, [], ◌∷◌, ltb, leb}
-use Rattle.number.specs.declared.Reading.{Reading}
-use Rattle.number.specs.declared.Reading.TheVariants.{Value, CutShort, Bad as BadNumber}
+use Rattle.std.specs.Prelude.{ℕ, ◌+◌, ◌*◌, ◌%◌, Bool, true, false, List, [], ◌∷◌, ltb, leb, Ok, Err}
+use Rattle.number.specs.Number.{Reading}
+use Rattle.number.specs.declared.Unread.TheVariants.{CutShort, Bad as BadNumber}
 use Rattle.number.specs.declared.reader.Reader.{Reader}
 use Rattle.number.specs.declared.reader.Fed.{Fed}
 use Rattle.number.specs.declared.reader.Fed.TheVariants.{More, Whole, Bad}
@@ -53,10 +53,10 @@ fed limit r byte = elim (ltb byte 128) [ true ↦ ended limit r byte | false ↦
 
 -- What the bytes of a list give, fed one by one; they begin at a place.
 unfoldable pub feeds : ℕ → Reader → List ℕ → ℕ → Reading
-feeds limit r [] at = CutShort
+feeds limit r [] at = Err CutShort
 feeds limit r (b ∷ bs) at =
     elim (fed limit r b) [
       | More next ↦ feeds limit next bs (at + 1)
-      | Whole v ↦ Value v (at + 1)
-      | Bad ↦ BadNumber (at + 1)
+      | Whole v ↦ Ok (v, at + 1)
+      | Bad ↦ Err (BadNumber (at + 1))
     ]

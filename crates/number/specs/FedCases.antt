@@ -1,5 +1,5 @@
 -- What feeding gives, case by case.
-use Rattle.std.specs.Prelude.{ℕ, ◌+◌, ◌-◌, ◌*◌, ◌/◌, ◌%◌, ◌≤◌, ◌<◌, Bool, List, [], ◌∷◌, length, get_or, drop}
+use Rattle.std.specs.Prelude.{ℕ, ◌+◌, ◌-◌, ◌*◌, ◌/◌, ◌%◌, ◌≤◌, ◌<◌, Bool, List, [], ◌∷◌, length, get_or, drop, Ok, Err}
 use Rattle.std.proofs.Math.Bool.{true, false}
 use Rattle.std.proofs.Math.Path.{◌≡◌, refl}
 use Rattle.std.proofs.Common.{sym, ◌∙◌, le-div_iff_mul-le, div-lt_iff_lt-mul, add-one, drop_of_length-le, drop-cons}
@@ -7,12 +7,12 @@ use native.Mathlib.Omega.{arith}
 use Rattle.std.proofs.Math.Dec.{ltb, leb}
 use borrow.Author.Tests.{lt-ltb, le-ltb, le-leb, lt-leb, ltb-true, ltb-false, leb-true, leb-false}
 use Rattle.number.specs.Fed.{spoilt, with_group, group_fits, short_end, ended, onward, fed, feeds}
-use Rattle.number.specs.declared.Reading.TheVariants.{Value, CutShort, Bad as BadNumber}
+use Rattle.number.specs.declared.Unread.TheVariants.{CutShort, Bad as BadNumber}
 use Rattle.number.specs.declared.reader.Reader.{Reader}
 use Rattle.number.specs.declared.reader.Fed.TheVariants.{More, Whole, Bad}
 
 -- What a list gives, by what its first byte gives.
-pub feeds_none : (limit : ℕ) (r : Reader) (at : ℕ) → feeds limit r [] at ≡ CutShort
+pub feeds_none : (limit : ℕ) (r : Reader) (at : ℕ) → feeds limit r [] at ≡ Err CutShort
 unfolding feeds
 feeds_none limit r at = refl
 
@@ -21,18 +21,18 @@ module _ (limit : ℕ) (r : Reader) (b : ℕ) (bs : List ℕ) (at : ℕ) where
   unfolding feeds
   feeds-more next e = rw (e, feeds)
 
-  pub feeds-whole : (v : ℕ) → fed limit r b ≡ Whole v → feeds limit r (b ∷ bs) at ≡ Value v (at + 1)
+  pub feeds-whole : (v : ℕ) → fed limit r b ≡ Whole v → feeds limit r (b ∷ bs) at ≡ Ok (v, at + 1)
   unfolding feeds
   feeds-whole v e = rw (e, feeds)
 
-  pub feeds_bad : fed limit r b ≡ Bad → feeds limit r (b ∷ bs) at ≡ BadNumber (at + 1)
+  pub feeds_bad : fed limit r b ≡ Bad → feeds limit r (b ∷ bs) at ≡ Err (BadNumber (at + 1))
   unfolding feeds
   feeds_bad e = rw (e, feeds)
 
 -- The same of a place in a list.
 pub feeds_past : (limit : ℕ) (r : Reader) (bytes : List ℕ) (at : ℕ)
     → length bytes ≤ at
-    → feeds limit r (drop at bytes) at ≡ CutShort
+    → feeds limit r (drop at bytes) at ≡ Err CutShort
 feeds_past limit r bytes at h = rw (drop_of_length-le bytes h) (feeds_none limit r at)
 
 module _ (limit : ℕ) (r : Reader) (bytes : List ℕ) (at : ℕ) (h : at < length bytes) where
@@ -43,10 +43,10 @@ module _ (limit : ℕ) (r : Reader) (bytes : List ℕ) (at : ℕ) (h : at < leng
       let s : drop at bytes ≡ get_or bytes at 0 ∷ drop (at + 1) bytes = rw add-one (drop-cons bytes at 0 h) in
       rw s (feeds-more limit r _ _ at next e)
 
-  pub feeds_at_whole : (v : ℕ) → fed limit r (get_or bytes at 0) ≡ Whole v → feeds limit r (drop at bytes) at ≡ Value v (at + 1)
+  pub feeds_at_whole : (v : ℕ) → fed limit r (get_or bytes at 0) ≡ Whole v → feeds limit r (drop at bytes) at ≡ Ok (v, at + 1)
   feeds_at_whole v e = rw (drop-cons bytes at 0 h) (feeds-whole limit r _ _ at v e)
 
-  pub feeds_at_bad : fed limit r (get_or bytes at 0) ≡ Bad → feeds limit r (drop at bytes) at ≡ BadNumber (at + 1)
+  pub feeds_at_bad : fed limit r (get_or bytes at 0) ≡ Bad → feeds limit r (drop at bytes) at ≡ Err (BadNumber (at + 1))
   feeds_at_bad e = rw (drop-cons bytes at 0 h) (feeds_bad limit r _ _ at e)
 
 -- The shortest form, case by case.

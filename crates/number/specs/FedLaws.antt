@@ -1,12 +1,12 @@
 -- Fed one by one, bytes say what reading says of their list, for any limit.
-use Rattle.std.specs.Prelude.{ℕ, suc, ◌+◌, ◌*◌, ◌%◌, ◌≤◌, ◌<◌, Bool, List, [], ◌∷◌, ◌≡◌, ltb, leb, length, drop}
+use Rattle.std.specs.Prelude.{ℕ, suc, ◌+◌, ◌*◌, ◌%◌, ◌≤◌, ◌<◌, Bool, List, [], ◌∷◌, ◌≡◌, ltb, leb, length, drop, Ok, Err}
 use Rattle.std.proofs.Math.Bool.{true, false}
 use Rattle.std.proofs.Math.Path.{refl, sym}
 use Rattle.std.proofs.Common.{ap, ◌∙◌, mul-le-mul_right, length-take-le, lt-ltb, le-ltb, le-leb, ltb-true, ltb-false, leb-true, leb-false}
 use native.Mathlib.Omega.{arith}
 use Rattle.std.proofs.Math.Nat.{add-mul, mul_assoc}
 use Rattle.std.proofs.lemmas.Bool.{lt-leb}
-use Rattle.number.specs.Number.{more, first, value, last_byte, shortest, judged, read_at}
+use Rattle.number.specs.Number.{more, first, value, last_byte, shortest, judged, read_at, Reading}
 use Rattle.number.specs.Encode.{Groups, one, several, groups}
 use Rattle.number.specs.Decode.{more_last, more_on, last_byte_cons, shortest_several}
 use Rattle.number.specs.NumberCases.{read_ends, read-cut}
@@ -14,8 +14,7 @@ use Rattle.number.specs.Fed.{start, spoilt, with_group, short_end, onward, feeds
 use Rattle.number.specs.FedCases.{feeds_none, feeds-more, feeds-whole, feeds_bad}
 use Rattle.number.specs.FedCases.{fits_yes, fits-spoilt, fits-above}
 use Rattle.number.specs.FedCases.{fed-whole, fed_bad, fed_long, fed_on, onward_bad, onward_heavy, onward-next}
-use Rattle.number.specs.declared.Reading.{Reading}
-use Rattle.number.specs.declared.Reading.TheVariants.{Value, Bad, CutShort}
+use Rattle.number.specs.declared.Unread.TheVariants.{Bad, CutShort}
 use Rattle.number.specs.declared.reader.Reader.{Reader}
 
 -- The value of a number whose last bytes these are, the others having been fed.
@@ -29,12 +28,12 @@ short_from r number = elim (leb r.weight 1) [ true ↦ shortest number | false �
 -- What a number gives by its form and its value.
 unfoldable outcome : ℕ → Bool → ℕ → ℕ → Reading
 outcome limit short v next =
-    elim short [ true ↦ elim (leb v limit) [ true ↦ Value v next | false ↦ Bad next ] | false ↦ Bad next ]
+    elim short [ true ↦ elim (leb v limit) [ true ↦ Ok (v, next) | false ↦ Err (Bad next) ] | false ↦ Err (Bad next) ]
 
 -- What those last bytes give.
 unfoldable judged_from : ℕ → Reader → List ℕ → ℕ → Reading
 judged_from limit r number next =
-    elim (ltb 0 r.weight) [ true ↦ outcome limit (short_from r number) (whole r number) next | false ↦ Bad next ]
+    elim (ltb 0 r.weight) [ true ↦ outcome limit (short_from r number) (whole r number) next | false ↦ Err (Bad next) ]
 
 module _ (r : Reader) where
   from_first : (number : List ℕ) → r.weight ≤ 1 → short_from r number ≡ shortest number
@@ -57,7 +56,7 @@ module _ (r : Reader) where
       go false t = rw (← e) (from_later (b ∷ bs) (leb-false r.weight 1 t))
 
 module _ (limit : ℕ) (r : Reader) (number : List ℕ) (next : ℕ) where
-  from-spoilt : r.weight ≡ 0 → judged_from limit r number next ≡ Bad next
+  from-spoilt : r.weight ≡ 0 → judged_from limit r number next ≡ Err (Bad next)
   unfolding judged_from
   from-spoilt z = rw (le-ltb 0 r.weight (omega arith), judged_from)
 
@@ -65,29 +64,29 @@ module _ (limit : ℕ) (r : Reader) (number : List ℕ) (next : ℕ) where
   unfolding judged_from
   from_good p = rw (lt-ltb 0 r.weight p, judged_from)
 
-  from_bad : outcome limit (short_from r number) (whole r number) next ≡ Bad next → judged_from limit r number next ≡ Bad next
+  from_bad : outcome limit (short_from r number) (whole r number) next ≡ Err (Bad next) → judged_from limit r number next ≡ Err (Bad next)
   from_bad e = go (ltb 0 r.weight) refl
     where
-      go : (b : Bool) → ltb 0 r.weight ≡ b → judged_from limit r number next ≡ Bad next
+      go : (b : Bool) → ltb 0 r.weight ≡ b → judged_from limit r number next ≡ Err (Bad next)
       go true p = from_good (ltb-true 0 r.weight p) ∙ e
       go false p = let z = ltb-false 0 r.weight p in from-spoilt (omega arith)
 
-  from_long : short_from r number ≡ false → judged_from limit r number next ≡ Bad next
+  from_long : short_from r number ≡ false → judged_from limit r number next ≡ Err (Bad next)
   unfolding outcome
   from_long s = from_bad (rw (s, outcome))
 
-  from-above : limit < whole r number → judged_from limit r number next ≡ Bad next
+  from-above : limit < whole r number → judged_from limit r number next ≡ Err (Bad next)
   unfolding outcome
   from-above h = from_bad (go (short_from r number))
     where
-      go : (b : Bool) → outcome limit b (whole r number) next ≡ Bad next
+      go : (b : Bool) → outcome limit b (whole r number) next ≡ Err (Bad next)
       go true = rw (lt-leb (whole r number) limit h, outcome)
       go false = refl
 
   from-value : 0 < r.weight
       → short_from r number ≡ true
       → whole r number ≤ limit
-      → judged_from limit r number next ≡ Value (whole r number) next
+      → judged_from limit r number next ≡ Ok (whole r number, next)
   unfolding outcome
   from-value p s h = from_good p ∙ rw (s, outcome) (rw (le-leb (whole r number) limit h))
 
@@ -136,7 +135,7 @@ module _ (limit : ℕ) (r : Reader) (b : ℕ) (bs : List ℕ) (at : ℕ) (l : b 
           feeds_bad limit r b bs at (fed_long limit r b l s) ∙ sym (from_long limit r (b ∷ []) (at + 1) (last_short ∙ s))
       go (room p h) true s =
           feeds-whole limit r b bs at (with_group r b) (fed-whole limit r b l (fits_yes limit r b p h) s)
-          ∙ ap (λ (v : ℕ). Value v (at + 1)) (sym last_value)
+          ∙ ap (λ (v : ℕ). Ok (v, at + 1)) (sym last_value)
           ∙ sym (from-value limit r (b ∷ []) (at + 1) p (last_short ∙ s) (rw last_value h))
       go (above h) true s =
           feeds_bad limit r b bs at (fed_bad limit r b l (fits-above limit r b h))
@@ -163,10 +162,10 @@ module _ (limit : ℕ) (r : Reader) (b : ℕ) (bs : List ℕ) (next : ℕ) (some
       omega (arith, add-mul g (128 * v) w, mul_assoc 128 v w, mul_assoc v w 128)
 
   -- the last byte is 0, or its group is at least the next weight
-  too_heavy : limit < r.weight * 128 → judged_from limit r (b ∷ bs) next ≡ Bad next
+  too_heavy : limit < r.weight * 128 → judged_from limit r (b ∷ bs) next ≡ Err (Bad next)
   too_heavy h = go (ltb 0 (last_byte bs)) refl
     where
-      go : (s : Bool) → ltb 0 (last_byte bs) ≡ s → judged_from limit r (b ∷ bs) next ≡ Bad next
+      go : (s : Bool) → ltb 0 (last_byte bs) ≡ s → judged_from limit r (b ∷ bs) next ≡ Err (Bad next)
       go false s = from_long limit r (b ∷ bs) next (from_several r b bs some ∙ s)
       go true s =
           let v = value_some bs (ltb-true 0 (last_byte bs) s) l in
@@ -187,7 +186,7 @@ module _ (limit : ℕ) (r : Reader) (b : ℕ) (bs : List ℕ) (next : ℕ) (some
   on = go (fits limit r b) (leb (r.weight * 128) limit) refl
     where
       spoils : onward limit r b ≡ spoilt
-          → judged_from limit r (b ∷ bs) next ≡ Bad next
+          → judged_from limit r (b ∷ bs) next ≡ Err (Bad next)
           → judged_from limit r (b ∷ bs) next ≡ judged_from limit (onward limit r b) bs next
       spoils e f = f ∙ sym (rw e (from-spoilt limit spoilt bs next refl))
 
@@ -251,13 +250,13 @@ feeds_ends limit (b ∷ bs) r at h = go (groups b) (feeds_ends limit bs (onward 
         ∙ (rw e at (ih m))
         ∙ sym (on limit r b (first bs) next (first_some bs m) (last_low bs m)))
 
-feeds-cut : (limit : ℕ) (bs : List ℕ) (r : Reader) (at : ℕ) → length bs ≤ more bs → feeds limit r bs at ≡ CutShort
+feeds-cut : (limit : ℕ) (bs : List ℕ) (r : Reader) (at : ℕ) → length bs ≤ more bs → feeds limit r bs at ≡ Err CutShort
 feeds-cut limit [] r at h = feeds_none limit r at
 feeds-cut limit (b ∷ bs) r at h = go (groups b) (feeds-cut limit bs (onward limit r b) (at + 1))
   where
     go : Groups b
-        → (length bs ≤ more bs → feeds limit (onward limit r b) bs (at + 1) ≡ CutShort)
-        → feeds limit r (b ∷ bs) at ≡ CutShort
+        → (length bs ≤ more bs → feeds limit (onward limit r b) bs (at + 1) ≡ Err CutShort)
+        → feeds limit r (b ∷ bs) at ≡ Err CutShort
     go (one l) ih = absurd (let z : suc (length bs) ≤ 0 = rw (more_last b bs l) at h in omega arith)
     go (several l) ih =
         feeds-more limit r b bs at (onward limit r b) (fed_on limit r b l) ∙ ih (omega (arith, more_on b bs l))

@@ -1,10 +1,13 @@
 -- The numbers of a sheet, as document 01 has them: "A number is written in groups of seven bits, lowest first, high bit set
 -- on all but the last byte, in the fewest bytes." The limit is a parameter: the paper's is 4,294,967,295.
 use Rattle.std.specs.Prelude.{ℕ, zero, suc, ◌+◌, ◌*◌, ◌/◌, ◌%◌, ◌<◌, Bool, true, false, List, [], ◌∷◌, ◌++◌, ltb, leb, length, get_or, take, drop}
-use Rattle.number.specs.declared.Reading.{Reading}
-use Rattle.number.specs.declared.Reading.TheVariants.{Value, Bad, CutShort}
-use Rattle.number.specs.declared.Written.{Written}
-use Rattle.number.specs.declared.Written.TheVariants.{Used, NoRoom}
+use Rattle.number.specs.declared.Unread.{Unread}
+use Rattle.std.specs.Prelude.{Result, Ok, Err, Option, Some, None}
+use Rattle.number.specs.declared.Unread.TheVariants.{Bad, CutShort}
+
+-- What reading a number gives: its value and the next place, a bad number and the next place, or a number cut short.
+abbrev pub Reading : Type 0
+Reading = Result (ℕ × ℕ) Unread
 
 -- Bytes are numbers below 256.
 abbrev pub AreBytes : List ℕ → Type 0
@@ -51,8 +54,8 @@ shortest number = elim (leb (length number) 1) [ true ↦ true | false ↦ ltb 0
 unfoldable pub judged : ℕ → List ℕ → ℕ → Reading
 judged limit number next =
     elim (shortest number) [
-      | true ↦ elim (leb (value number) limit) [ true ↦ Value (value number) next | false ↦ Bad next ]
-      | false ↦ Bad next
+      | true ↦ elim (leb (value number) limit) [ true ↦ Ok (value number, next) | false ↦ Err (Bad next) ]
+      | false ↦ Err (Bad next)
     ]
 
 -- The number that stands first in these bytes, which begin at a place: cut short if no last byte stands before their end.
@@ -60,7 +63,7 @@ unfoldable pub read_first : ℕ → List ℕ → ℕ → Reading
 read_first limit bytes at =
     elim (ltb (more bytes) (length bytes)) [
       | true ↦ judged limit (first bytes) (at + suc (more bytes))
-      | false ↦ CutShort
+      | false ↦ Err CutShort
     ]
 
 -- The number at a place. Past the end there is no byte, so that it is cut short.
@@ -69,15 +72,14 @@ read_at limit bytes at = read_first limit (drop at bytes) at
 
 -- "3. A number is cut short by the sheet's end. 4. A number is not in its shortest form or exceeds 4,294,967,295."
 unfoldable pub refusal_of : Reading → ℕ
-refusal_of (Value v next) = 0
-refusal_of (Bad next) = 4
-refusal_of CutShort = 3
+refusal_of (Ok (v, next)) = 0
+refusal_of (Err (Bad next)) = 4
+refusal_of (Err CutShort) = 3
 
 -- The value that was read, 0 if none was
 unfoldable pub value_of : Reading → ℕ
-value_of (Value v next) = v
-value_of (Bad next) = 0
-value_of CutShort = 0
+value_of (Ok (v, next)) = v
+value_of (Err why) = 0
 
 -- Memory with these bytes from a place on: what stands before and after them stays.
 unfoldable pub splice : List ℕ → ℕ → List ℕ → List ℕ
@@ -88,8 +90,8 @@ unfoldable pub fits : ℕ → List ℕ → ℕ → Bool
 fits v out used = leb (used + length (encode v)) (length out)
 
 -- What writing a value after a used length answers, and the memory after it.
-unfoldable pub written : ℕ → List ℕ → ℕ → Written
-written v out used = elim (fits v out used) [ true ↦ Used (used + length (encode v)) | false ↦ NoRoom ]
+unfoldable pub written : ℕ → List ℕ → ℕ → Option ℕ
+written v out used = elim (fits v out used) [ true ↦ Some (used + length (encode v)) | false ↦ None ]
 
 unfoldable pub memory : ℕ → List ℕ → ℕ → List ℕ
 memory v out used = elim (fits v out used) [ true ↦ splice out used (encode v) | false ↦ out ]

@@ -1,28 +1,33 @@
 -- What reading gives, case by case.
-use Rattle.std.specs.Prelude.{ℕ, suc, ◌+◌, ◌≤◌, ◌<◌, Bool, List, ◌≡◌, ltb, leb, length, drop}
+use Rattle.std.specs.Prelude.{ℕ, suc, ◌+◌, ◌≤◌, ◌<◌, Bool, List, ◌≡◌, ltb, leb, length, drop, Ok, Err}
 use Rattle.std.proofs.Math.Bool.{true, false}
 use Rattle.std.proofs.Math.Path.{refl}
-use Rattle.std.proofs.Common.{subst, lt-ltb, le-ltb, le-leb, ltb-true, ltb-false, leb-true, leb-false}
+use Rattle.std.proofs.Common.{ap, subst, lt-ltb, le-ltb, le-leb, ltb-true, ltb-false, leb-true, leb-false}
 use Rattle.std.proofs.lemmas.Bool.{lt-leb}
-use Rattle.number.specs.Number.{more, first, value, shortest, judged, read_first, read_at}
-use Rattle.number.specs.declared.Reading.{Reading}
-use Rattle.number.specs.declared.Reading.TheVariants.{Value, Bad, CutShort}
+use Rattle.number.specs.Number.{more, first, value, shortest, judged, read_first, read_at, Reading}
+use Rattle.number.specs.declared.Unread.TheVariants.{Bad, CutShort}
+
+-- Two numbers that were read are one only with one value and one next place.
+pub same_read : (v n w m : ℕ) → ◌≡◌ {A = Reading} (Ok (v, n)) (Ok (w, m)) → (v ≡ w) × (n ≡ m)
+same_read v n w m e =
+    let p : ◌≡◌ {A = ℕ × ℕ} (v, n) (w, m) = cc in
+    (ap (λ (q : ℕ × ℕ). q.0) p, ap (λ (q : ℕ × ℕ). q.1) p)
 
 -- What a number's bytes give, case by case.
 module _ (limit : ℕ) (number : List ℕ) (next : ℕ) where
-  pub judged-value : shortest number ≡ true → value number ≤ limit → judged limit number next ≡ Value (value number) next
+  pub judged-value : shortest number ≡ true → value number ≤ limit → judged limit number next ≡ Ok (value number, next)
   unfolding judged
   judged-value s l = rw (s, judged) (rw (le-leb (value number) limit l))
 
-  pub judged_long : shortest number ≡ false → judged limit number next ≡ Bad next
+  pub judged_long : shortest number ≡ false → judged limit number next ≡ Err (Bad next)
   unfolding judged
   judged_long s = rw (s, judged)
 
-  pub judged-above : limit < value number → judged limit number next ≡ Bad next
+  pub judged-above : limit < value number → judged limit number next ≡ Err (Bad next)
   unfolding judged
   judged-above l = go (shortest number) refl
     where
-      go : (b : Bool) → shortest number ≡ b → judged limit number next ≡ Bad next
+      go : (b : Bool) → shortest number ≡ b → judged limit number next ≡ Err (Bad next)
       go true s = rw (s, judged) (rw (lt-leb (value number) limit l))
       go false s = judged_long s
 
@@ -33,18 +38,18 @@ module _ (limit : ℕ) (bytes : List ℕ) (at : ℕ) where
   unfolding read_at read_first
   read_ends l = rw (lt-ltb (more (drop at bytes)) (length (drop at bytes)) l, read_at, read_first)
 
-  pub read-cut : length (drop at bytes) ≤ more (drop at bytes) → read_at limit bytes at ≡ CutShort
+  pub read-cut : length (drop at bytes) ≤ more (drop at bytes) → read_at limit bytes at ≡ Err CutShort
   unfolding read_at read_first
   read-cut l = rw (le-ltb (more (drop at bytes)) (length (drop at bytes)) l, read_at, read_first)
 
 -- What reading at a place gives, with what holds there.
 pub data At (limit : ℕ) (bytes : List ℕ) (at : ℕ) : Reading → Type 0 where
-  cut : length (drop at bytes) ≤ more (drop at bytes) → At limit bytes at CutShort
-  bad : more (drop at bytes) < length (drop at bytes) → At limit bytes at (Bad (at + suc (more (drop at bytes))))
+  cut : length (drop at bytes) ≤ more (drop at bytes) → At limit bytes at (Err CutShort)
+  bad : more (drop at bytes) < length (drop at bytes) → At limit bytes at (Err (Bad (at + suc (more (drop at bytes)))))
   good : more (drop at bytes) < length (drop at bytes)
       → shortest (first (drop at bytes)) ≡ true
       → value (first (drop at bytes)) ≤ limit
-      → At limit bytes at (Value (value (first (drop at bytes))) (at + suc (more (drop at bytes))))
+      → At limit bytes at (Ok (value (first (drop at bytes)), at + suc (more (drop at bytes))))
 
 module _ (limit : ℕ) (bytes : List ℕ) (at : ℕ) where
   reading_ends : more (drop at bytes) < length (drop at bytes)

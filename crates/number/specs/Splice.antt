@@ -1,12 +1,11 @@
 -- Bytes put into memory, and what writing a value answers.
-use Rattle.std.specs.Prelude.{ℕ, suc, ◌+◌, ◌≤◌, ◌<◌, ◌≡◌, refl, take, set}
+use Rattle.std.specs.Prelude.{ℕ, suc, ◌+◌, ◌≤◌, ◌<◌, ◌≡◌, refl, take, set, Some, None}
 use mathlib.Core.List.{List, [], ◌∷◌, ◌++◌, append_assoc, append-nil}
 use Rattle.std.proofs.Common.{ap, sym, ◌∙◌, arith, add-zero, add-one, length-append, length-drop, take-append-drop, length-take-le, take-suc-set, drop-set-lt, drop-drop, le-leb}
 use Rattle.std.proofs.Math.ListN.{length, drop}
 use Rattle.std.proofs.Math.Seq.{take_at, drop_at, append_snoc}
 use Rattle.std.proofs.lemmas.Bool.{lt-leb}
 use Rattle.number.specs.Number.{encode, splice, fits, written, memory}
-use Rattle.number.specs.declared.Written.TheVariants.{Used, NoRoom}
 
 -- one byte more
 pub splice-step : (out : List ℕ) (at b : ℕ) (bs : List ℕ)
@@ -70,11 +69,11 @@ splice_then out at bs cs h =
 
 -- Writing a value: all its bytes, or none where they do not fit.
 module _ (v : ℕ) (out : List ℕ) (used : ℕ) where
-  pub written-fits : used + length (encode v) ≤ length out → written v out used ≡ Used (used + length (encode v))
+  pub written-fits : used + length (encode v) ≤ length out → written v out used ≡ Some (used + length (encode v))
   unfolding written fits
   written-fits h = rw (le-leb (used + length (encode v)) (length out) h, written, fits)
 
-  pub written-not : length out < used + length (encode v) → written v out used ≡ NoRoom
+  pub written-not : length out < used + length (encode v) → written v out used ≡ None
   unfolding written fits
   written-not h = rw (lt-leb (used + length (encode v)) (length out) h, written, fits)
 

@@ -1,8 +1,9 @@
 #![tactic(auto)]
 
-// Numbers in groups of seven bits, lowest first, the high bit set on all but the last byte, in the fewest bytes.
-ghost use Rattle.std.specs.Prelude.{◌≡◌, ◌%◌, length};
-ghost use Rattle.number.specs.Number.{encode, judged, read_at, written, memory};
+// Numbers in groups of seven bits, lowest first, the high bit set on all but the last byte, in the fewest bytes. The loops that stay `while`
+// divide a value and count no index. Memory and the place in it stay two parameters, as C lends a memory with the length used.
+ghost use Rattle.std.specs.Prelude.{◌≡◌, ◌+◌, ◌≤◌, ◌%◌, length};
+ghost use Rattle.number.specs.Number.{encode, judged, read_at, splice, written, memory};
 
 mod reader;
 
@@ -11,88 +12,80 @@ pub use reader::{Fed, Reader, feed, start};
 // The limit of document 01.
 pub const LIMIT_32: u64 = 4294967295;
 
-// What reading a number gives: its value and the next place, a bad number and the next place, or a number cut short.
-#[derive(Clone, Copy)]
-pub enum Reading {
-    Value(u64, usize),
+// Why there is no number at a place: a bad one stands there, with the place behind it, or one that is cut short.
+#[derive(Clone, Copy, Debug, PartialEq, Eq)]
+pub enum Unread {
     Bad(usize),
     CutShort,
 }
 
-// What writing a number gives: the new used length, or that there was no room.
-#[derive(Clone, Copy)]
-pub enum Written {
-    Used(usize),
-    NoRoom,
-}
-
-// The number at a place.
-pub fn read(bytes: &[u8], at: usize, limit: u64) -> Reading
+// The number at a place, and the place behind it.
+pub fn read(bytes: &[u8], at: usize, limit: u64) -> Result<(u64, usize), Unread>
     ensures { result ≡ read_at limit bytes.now at }
 {
-    let mut last = at;
-    while last < bytes.len() {
-        if bytes[last] < 128 {
-            let next = last + 1;
-            return judge(&bytes[at..next], limit, next);
-        }
-        last += 1;
-    }
-    Reading::CutShort
+    let rest = bytes.get(at..).ok_or(Unread::CutShort)?;
+    let last = rest
+        .iter()
+        .position(|byte| *byte < 128)
+        .ok_or(Unread::CutShort)?;
+    judge(&rest[..=last], limit, at + last + 1)
 }
 
 // What the bytes of a whole number give. The groups are taken from the highest down, so that a value past the limit shows
 // before it could wrap.
-fn judge(number: &[u8], limit: u64, next: usize) -> Reading
+fn judge(number: &[u8], limit: u64, next: usize) -> Result<(u64, usize), Unread>
     ensures { result ≡ judged limit number.now next }
 {
-    let mut i = number.len();
-    if 1 < i {
-        if number[i - 1] == 0 {
-            return Reading::Bad(next);
-        }
+    let n = number.len();
+    if 1 < n && number[n - 1] == 0 {
+        return Err(Unread::Bad(next));
     }
     let mut v: u64 = 0;
-    while 0 < i {
+    for byte in number.iter().rev() {
         if limit / 128 < v {
-            return Reading::Bad(next);
+            return Err(Unread::Bad(next));
         }
-        i -= 1;
-        v = v * 128 + group(number[i]);
+        v = v * 128 + group(*byte);
     }
     if limit < v {
-        return Reading::Bad(next);
+        return Err(Unread::Bad(next));
     }
-    Reading::Value(v, next)
+    Ok((v, next))
 }
 
 // The seven bits of a byte's group.
 fn group(b: u8) -> u64
     ensures { result ≡ b % 128 }
 {
-    (b % 128) as u64
+    u64::from(b % 128)
 }
 
-// Writes a value after a used length. Without room for all its bytes none is written.
-pub fn write(v: u64, out: &mut [u8], used: usize) -> Written
+// Writes a value after a used length, and answers the new used length. Without room for all its bytes none is written.
+pub fn write(v: u64, out: &mut [u8], used: usize) -> Option<usize>
     ensures answer { result ≡ written v out.old used }
     ensures bytes { out.new ≡ memory v out.old used }
 {
-    if out.len() < used {
-        return Written::NoRoom;
+    if out.len().saturating_sub(used) < size(v) {
+        return None;
     }
-    if out.len() - used < size(v) {
-        return Written::NoRoom;
-    }
+    Some(write_number(v, out, used))
+}
+
+// Writes a value and answers the place behind it. Internal: the caller has shown that there is room.
+pub fn write_number(v: u64, out: &mut [u8], at: usize) -> usize
+    requires { at + length (encode v) ≤ length out.old }
+    ensures answer { result ≡ at + length (encode v) }
+    ensures bytes { out.new ≡ splice out.old at (encode v) }
+{
     let mut rest = v;
-    let mut at = used;
+    let mut last = at;
     while 128 <= rest {
-        out[at] = (rest % 128 + 128) as u8;
+        out[last] = (rest % 128 + 128) as u8;
         rest = rest / 128;
-        at += 1;
+        last += 1;
     }
-    out[at] = rest as u8;
-    Written::Used(at + 1)
+    out[last] = rest as u8;
+    last + 1
 }
 
 // How many bytes a value takes.

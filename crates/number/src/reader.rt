@@ -4,15 +4,21 @@ ghost use Rattle.number.specs.Fed.{start, group_fits, fed};
 
 use crate::group;
 
-// A number that is being read: its value so far, and the weight of the next byte's group, 0 once it is bad whatever follows.
-#[derive(Clone, Copy)]
+// A number that is being read: its value so far, and the weight of the next byte's group, 0 once it is bad whatever follows. That is a
+// number and no Option, since the C interface has both as words of a report.
+#[derive(Clone, Copy, Debug, PartialEq, Eq)]
 pub struct Reader {
     pub value: u64,
     pub weight: u64,
 }
 
+const SPOILT: Reader = Reader {
+    value: 0,
+    weight: 0,
+};
+
 // What feeding a byte gives: the number goes on, or its value, or a bad number.
-#[derive(Clone, Copy)]
+#[derive(Clone, Copy, Debug, PartialEq, Eq)]
 pub enum Fed {
     More(Reader),
     Whole(u64),
@@ -30,7 +36,7 @@ pub fn start() -> Reader
 }
 
 // Feeds a byte.
-#[tactic(auto, using(crate::proofs::Steps::fed_zero, crate::proofs::Steps::fed_first))]
+#[tactic(auto, using(crate::proofs::Steps::fed_zero, crate::proofs::Steps::fed_short))]
 pub fn feed(reader: Reader, byte: u8, limit: u64) -> Fed
     ensures { result ≡ fed limit reader byte }
 {
@@ -38,26 +44,18 @@ pub fn feed(reader: Reader, byte: u8, limit: u64) -> Fed
         if byte < 128 {
             return Fed::Bad;
         }
-        return Fed::More(Reader {
-            value: 0,
-            weight: 0,
-        });
+        return Fed::More(SPOILT);
     }
     let value = reader.value + group(byte) * reader.weight;
     let weight = reader.weight;
     if byte < 128 {
-        if byte == 0 {
-            if 1 < weight {
-                return Fed::Bad;
-            }
+        if byte == 0 && 1 < weight {
+            return Fed::Bad;
         }
         return Fed::Whole(value);
     }
     if limit / 128 < weight {
-        return Fed::More(Reader {
-            value: 0,
-            weight: 0,
-        });
+        return Fed::More(SPOILT);
     }
     Fed::More(Reader {
         value,

@@ -49,7 +49,7 @@ fn run<R: Read, W: Write>(reader: &mut R, writer: &mut W) -> io::Result<()>
     let mut bytes = [0u8; SHEET];
     let n = streams::read_full(reader, &mut bytes)?;
     let mut memory = [0u64; session::WORDS];
-    session::write_fresh(&mut memory);
+    session::put_fresh(&mut memory);
     let mut lines = [0u8; PART];
     print(writer, &bytes[..n], &mut memory, &mut lines)
 }

@@ -1,10 +1,12 @@
 -- Looking for a number in a field: the places passed do not have it.
-use Rattle.std.specs.Prelude.{ℕ, ◌+◌, ◌-◌, ◌≤◌, ◌<◌, ◌≡◌}
+use Rattle.std.specs.Prelude.{ℕ, ◌+◌, ◌-◌, ◌≤◌, ◌<◌, ◌≡◌, Option}
 use Rattle.std.proofs.Common.{arith}
 use Rattle.std.proofs.Math.Decide.{dec_lt}
 use Rattle.session.specs.Table.{Session}
 use Rattle.session.specs.declared.Field.{Field}
 use Rattle.rules.specs.Formula.{Formula, Holds, Formula.◌≐◌, Formula.some}
+use Rattle.reading.specs.Eights.{OrEnd, or_end_so}
+use Rattle.reading.specs.Holders.{First}
 
 -- one of the eight places from i on has v in field f
 abbrev pub near : Session → Field → ℕ → ℕ → Formula
@@ -46,3 +48,14 @@ module _ (s : Session) (f : Field) (v b : ℕ) where
       go : (i : ℕ) → b ≤ i → i < r + 1 → s f i ≡ v → Dec (i < r) → ⊥
       go i a l q (yes x) = p.others i a x q
       go i a l q (no x) = let e : i ≡ r = omega arith in n (rw e at q)
+
+  -- the first place that the field has v at
+  pub found_by : (e : ℕ) (r : Option ℕ) → OrEnd (First (λ i. s f i ≐ v) b e) e r → OrEnd (Found s f v b e) e r
+  found_by e r h = or_end_so (First (λ i. s f i ≐ v) b e) (Found s f v b e) e r (λ q _ x. all q x) h
+    where
+      all : (q : ℕ) → First (λ i. s f i ≐ v) b e q → Found s f v b e q
+      all q x = record {
+        passed = record { onward = x.passed.from; others = λ i a l. x.passed.none i l a };
+        within = x.within;
+        here = x.there;
+      }

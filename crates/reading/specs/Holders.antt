@@ -1,11 +1,13 @@
 -- The tasks that may hold blocks by their slots, and how far handles were passed in looking for one.
-use Rattle.std.specs.Prelude.{ℕ, ◌+◌, ◌-◌, ◌≤◌, ◌<◌, ◌≡◌}
-use Rattle.std.proofs.Common.{subst, arith, below_more}
+use Rattle.std.specs.Prelude.{ℕ, ◌+◌, ◌-◌, ◌≤◌, ◌<◌, ◌≡◌, Bool, true, false, Option, Some, None}
+use Rattle.std.proofs.Common.{subst, sym, arith, below_more}
 use Rattle.std.proofs.Math.Decide.{dec_lt}
 use Rattle.session.specs.Table.{Session}
 use Rattle.session.specs.declared.Field.TheVariants.{TaskState}
 use Rattle.session.specs.Names.{granted, running}
-use Rattle.rules.specs.Formula.{Formula, Holds, Formula.◌≐◌, Formula.◌or◌}
+use Rattle.rules.specs.Formula.{Formula, Holds, test, Formula.◌≐◌, Formula.◌or◌}
+use Rattle.rules.specs.FormulaLaws.{passed, failed}
+use Rattle.reading.specs.Eights.{NoneBy, NextBy, OrEnd}
 
 -- a task that may hold blocks by its slots
 abbrev pub is_holder : Session → ℕ → Formula
@@ -50,3 +52,17 @@ pass_row f a c h =
       from = omega arith;
       none = λ i l g x. let e : i ≡ a + (i - a) = omega arith in h (i - a) (omega arith) (subst (λ (n : ℕ). Holds (f n)) e x);
     }
+
+-- the next place by a test that answers what the formula says is the first
+pub first_by : (R : ℕ → Bool → Type 0) (f : ℕ → Formula) (a n : ℕ) (r : Option ℕ) → a ≤ n → NextBy R a n r
+    → ((i : ℕ) (c : Bool) → R i c → c ≡ test (f i)) → OrEnd (First f a n) n r
+unfolding NextBy OrEnd
+first_by R f a n r l h t = go r h
+  where
+    none : (q : ℕ) → a ≤ q → NoneBy R a q → Passed f a q
+    none q m w = record { from = m; none = λ i b o. failed _ (sym (t i false (w i o b))) }
+
+    go : (r : Option ℕ) → NextBy R a n r → OrEnd (First f a n) n r
+    go None w = record { within = omega arith; passed = none n l w; there = λ b. absurd (omega arith) }
+    go (Some q) w =
+        (record { within = let b = w.1 in omega arith; passed = none q w.0 w.2; there = λ b. passed (f q) (sym (t q true w.3)) }, w.1)

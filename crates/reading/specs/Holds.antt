@@ -1,5 +1,5 @@
 -- Who holds a block, task by task.
-use Rattle.std.specs.Prelude.{ℕ, ◌+◌, ◌/◌, ◌%◌, ◌≤◌, ◌<◌, ◌≡◌, List}
+use Rattle.std.specs.Prelude.{ℕ, ◌+◌, ◌/◌, ◌%◌, ◌≤◌, ◌<◌, ◌≡◌, List, Option}
 use Rattle.std.proofs.Common.{subst, inl, inr, arith}
 use Rattle.std.proofs.Math.Decide.{dec_lt}
 use Rattle.session.specs.Table.{Session, read}
@@ -8,7 +8,8 @@ use Rattle.session.specs.declared.Field.TheVariants.{Objects, TaskSlots, BlockHe
 use Rattle.session.specs.Names.{held, most_objects}
 use Rattle.rules.specs.Formula.{Formula, Holds, Formula.some}
 use Rattle.rules.specs.Reading.{at, is_held, slot_holds}
-use Rattle.reading.specs.Holders.{is_holder, Passed}
+use Rattle.reading.specs.Eights.{OrEnd, or_end_so}
+use Rattle.reading.specs.Holders.{is_holder, Passed, First}
 
 -- only the pre-slots of granted and running tasks hold
 abbrev pub Active : Session → Type 0
@@ -40,6 +41,15 @@ held_past s b n a r e few active none p h l x = go (dec_lt h a)
     go : Dec (h < a) → ⊥
     go (yes m) = none h m x
     go (no m) = p.none h l (omega arith) (active h x.0 (omega arith) x.1 x.2.0).0
+
+-- nobody before a holds block b; and so it is up to the next holder, if a is none of those who hold it
+abbrev pub NoneHolds : Session → ℕ → ℕ → Type 0
+NoneHolds s b a = (h : ℕ) → h < a → Holds (slots_hold s b h) → ⊥
+
+pub held_next : (s : Session) (b n a : ℕ) (r : Option ℕ) → n ≡ s Objects 0 + 1 → Active s → NoneHolds s b a
+    → OrEnd (First (is_holder s) a n) n r → OrEnd (NoneHolds s b) n r
+held_next s b n a r e active none x =
+    or_end_so (First (is_holder s) a n) (NoneHolds s b) n r (λ q l f. held_past s b n a q e l active none f.passed) x
 
 -- past the last handle there are no slots
 pub no_slots : (m : List ℕ) (b t : ℕ) → most_objects < t → Holds (slots_hold (read m) b t) → ⊥

@@ -1,15 +1,15 @@
-// The links from a counted event: how many were made, and how many of these are delivered. Internal: callers have shown the length, and
-// that the count of links is in range.
-ghost use Rattle.std.specs.Prelude.{◌≡◌, ◌+◌, ◌≤◌, length};
+// The links from a counted event: how many were made, and how many of these are delivered. Internal: callers
+// have shown that the count of links is in range.
+ghost use Rattle.std.specs.Prelude.{◌≡◌, ◌+◌, ◌≤◌};
 ghost use Rattle.session.specs.Names.{most_links, link_places};
-ghost use Rattle.session.specs.Table.{read, words, pick};
+ghost use Rattle.session.specs.Table.{read};
 ghost use Rattle.session.specs.Lent.{was};
 ghost use Rattle.session.specs.declared.Field.TheVariants.{Links};
 ghost use Rattle.rules.specs.Formula.{test, count};
 ghost use Rattle.rules.specs.Reading.{leads_from, served_from, has_its_count, lacks_one, serves_last};
 
 use crate::{of_link, of_object};
-use session::{Field, names};
+use session::{Field, Memory, names};
 
 // The links from an event: made, and of these delivered.
 #[derive(Clone, Copy)]
@@ -18,52 +18,38 @@ struct FromEvent {
     delivered: u64,
 }
 
-fn leads_from(s: &[u64], e: u64, l: u64) -> bool
-    requires { words ≤ length s.now }
+fn leads_from(s: &Memory, e: u64, l: u64) -> bool
     ensures { result ≡ test (leads_from (was s.now) e l) }
 {
     of_link(s, Field::LinkSource, l) == e
 }
 
-fn is_served_from(s: &[u64], e: u64, l: u64) -> bool
-    requires { words ≤ length s.now }
+fn is_served_from(s: &Memory, e: u64, l: u64) -> bool
     ensures { result ≡ test (served_from (was s.now) e l) }
 {
     leads_from(s, e, l) & (of_link(s, Field::LinkState, l) == names::DELIVERED)
 }
 
-// 1 for yes, 0 for no.
-fn one(yes: bool) -> u64
-    ensures answer { result ≡ pick yes 1 0 }
-    ensures few { result ≤ 1 }
-{
-    if yes {
-        return 1;
-    }
-    0
-}
-
 // How many of n links lead from event e, and how many of these are delivered.
-fn links_from(s: &[u64], n: u64, e: u64) -> FromEvent
-    requires { (words ≤ length s.now) × (n ≤ most_links) }
+#[tactic(auto, using(crate::specs::Loops::count_none, crate::specs::Loops::count_next))]
+fn links_from(s: &Memory, n: u64, e: u64) -> FromEvent
+    requires { n ≤ most_links }
     ensures made { result.made ≡ count (n + 1) (leads_from (was s.now) e) }
     ensures delivered { result.delivered ≡ count (n + 1) (served_from (was s.now) e) }
     ensures few { result.delivered ≤ link_places }
 {
     let mut made: u64 = 0;
     let mut delivered: u64 = 0;
-    let mut l: u64 = 0;
-    while l <= n {
-        made += one(leads_from(s, e, l));
-        delivered += one(is_served_from(s, e, l));
-        l += 1;
+    for l in 0..=n {
+        made += u64::from(leads_from(s, e, l));
+        delivered += u64::from(is_served_from(s, e, l));
     }
     FromEvent { made, delivered }
 }
 
 // Whether e is a counted event that already has its count of links.
-pub fn has_its_count(s: &[u64], e: u64) -> bool
-    requires { (words ≤ length s.now) × (read s.now Links 0 ≤ most_links) }
+pub fn has_its_count(s: &Memory, e: u64) -> bool
+    requires { read s.now Links 0 ≤ most_links }
     ensures { result ≡ test (has_its_count (was s.now) e) }
 {
     if of_object(s, Field::EventType, e) != names::COUNTED {
@@ -74,8 +60,8 @@ pub fn has_its_count(s: &[u64], e: u64) -> bool
 }
 
 // Whether e is a counted event of whose count of links all but one have been delivered.
-fn lacks_one(s: &[u64], e: u64) -> bool
-    requires { (words ≤ length s.now) × (read s.now Links 0 ≤ most_links) }
+fn lacks_one(s: &Memory, e: u64) -> bool
+    requires { read s.now Links 0 ≤ most_links }
     ensures { result ≡ test (lacks_one (was s.now) e) }
 {
     if of_object(s, Field::EventType, e) != names::COUNTED {
@@ -86,8 +72,8 @@ fn lacks_one(s: &[u64], e: u64) -> bool
 }
 
 // Whether link l is the last one that its event serves.
-pub fn serves_last(s: &[u64], l: u64) -> bool
-    requires { (words ≤ length s.now) × (read s.now Links 0 ≤ most_links) }
+pub fn serves_last(s: &Memory, l: u64) -> bool
+    requires { read s.now Links 0 ≤ most_links }
     ensures { result ≡ test (serves_last (was s.now) l) }
 {
     lacks_one(s, of_link(s, Field::LinkSource, l))

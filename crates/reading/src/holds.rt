@@ -28,12 +28,10 @@ fn task_holds(s: &[u64], b: u64, h: u64) -> bool
     requires { (words ≤ length s.now) × (h ≤ most_objects) }
     ensures { result ≡ test (slots_hold (was s.now) b h) }
 {
-    let mut j: u64 = 0;
-    while j < 16 {
+    for j in 0..16 {
         if slot_holds(s, b, (h * 16 + j) as usize) {
             return true;
         }
-        j += 1;
     }
     false
 }
@@ -69,21 +67,20 @@ fn holder_holds(s: &[u64], b: u64, h: u64) -> bool
     ensures { result ≡ test (slots_hold (was s.now) b h) }
 {
     let n = session::get(s, Field::TaskSlots, h as usize);
-    let mut j: u64 = 0;
-    while j < 16 {
+    for j in 0..16 {
         if n <= j {
             return false;
         }
         if slot_holds(s, b, (h * 16 + j) as usize) {
             return true;
         }
-        j += 1;
     }
     false
 }
 
 // Whether somebody holds block b. Internal: callers have shown the length, the handles, and that only the pre-slots of granted
 // and running tasks hold.
+#[tactic(auto, unfolding(crate::specs::Eights::OrEnd))]
 pub fn is_held(s: &[u64], b: u64) -> bool
     requires { (words ≤ length s.now) × (read s.now Objects 0 ≤ most_objects) × (b ≤ most_objects) × Active (read s.now) }
     ensures { result ≡ test (is_held (was s.now) b) }
@@ -92,12 +89,12 @@ pub fn is_held(s: &[u64], b: u64) -> bool
         return true;
     }
     let n = session::get(s, Field::Objects, 0) as usize + 1;
-    let mut h = next_holder(s, n, 0);
-    while h < n {
+    let mut next = next_holder(s, n, 0);
+    while let Some(h) = next {
         if holder_holds(s, b, h as u64) {
             return true;
         }
-        h = next_holder(s, n, h + 1);
+        next = next_holder(s, n, h + 1);
     }
     false
 }

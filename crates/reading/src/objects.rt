@@ -1,4 +1,4 @@
-// What the rules say of one object or link (Reading.antt), for any handle. Internal: callers have shown the length.
+// What the rules say of one object or link (Reading.antt), for any handle.
 ghost use Rattle.std.specs.Prelude.{◌≡◌, ◌≤◌, length};
 ghost use Rattle.session.specs.Names.{event, most_objects, most_links};
 ghost use Rattle.session.specs.Table.{read, words};
@@ -14,34 +14,30 @@ ghost use Rattle.reading.specs.Gone.{is_spent};
 
 use crate::of_object;
 use rules::event_types::{has_type_slot, is_gone_when_fired, is_user_type, refuses_further};
-use session::{Field, names};
+use session::{Field, Memory, names};
 
 // Whether a number is the handle of an object.
-pub fn is_made(s: &[u64], h: u64) -> bool
-    requires { words ≤ length s.now }
+pub fn is_made(s: &Memory, h: u64) -> bool
     ensures { result ≡ test (made (was s.now) h) }
 {
     (1 <= h) & (h <= session::get(s, Field::Objects, 0))
 }
 
-pub fn is_kind(s: &[u64], k: u64, h: u64) -> bool
-    requires { words ≤ length s.now }
+pub fn is_kind(s: &Memory, k: u64, h: u64) -> bool
     ensures { result ≡ test (is_kind (was s.now) k h) }
 {
     of_object(s, Field::Kind, h) == k
 }
 
 // Whether an object is an event of a type that a call may name.
-pub fn is_user_event(s: &[u64], h: u64) -> bool
-    requires { words ≤ length s.now }
+pub fn is_user_event(s: &Memory, h: u64) -> bool
     ensures { result ≡ test (is_user_event (was s.now) h) }
 {
     (of_object(s, Field::Kind, h) == names::EVENT) & is_user_type(of_object(s, Field::EventType, h))
 }
 
 // As a caller must be.
-pub fn is_running(s: &[u64], h: u64) -> bool
-    requires { words ≤ length s.now }
+pub fn is_running(s: &Memory, h: u64) -> bool
     ensures { result ≡ test (is_running (was s.now) h) }
 {
     if !is_made(s, h) {
@@ -54,8 +50,8 @@ pub fn is_running(s: &[u64], h: u64) -> bool
 }
 
 // Whether h is a live task; callers have shown that h has a place.
-pub fn is_live(s: &[u64], h: u64) -> bool
-    requires { (words ≤ length s.now) × (h ≤ most_objects) }
+pub fn is_live(s: &Memory, h: u64) -> bool
+    requires { h ≤ most_objects }
     ensures { result ≡ test (is_live (was s.now) h) }
 {
     if session::get(s, Field::Kind, h as usize) != names::TASK {
@@ -65,8 +61,7 @@ pub fn is_live(s: &[u64], h: u64) -> bool
 }
 
 // A destroyed event, or one that counts as gone since it has fired.
-pub fn is_spent(s: &[u64], e: u64) -> bool
-    requires { words ≤ length s.now }
+pub fn is_spent(s: &Memory, e: u64) -> bool
     ensures { result ≡ test (is_spent (was s.now) e) }
 {
     let state = of_object(s, Field::EventState, e);
@@ -79,8 +74,7 @@ pub fn is_spent(s: &[u64], e: u64) -> bool
     is_gone_when_fired(of_object(s, Field::EventType, e))
 }
 
-pub fn is_gone(s: &[u64], h: u64) -> bool
-    requires { words ≤ length s.now }
+pub fn is_gone(s: &Memory, h: u64) -> bool
     ensures { result ≡ test (is_gone (was s.now) h) }
 {
     let kind = of_object(s, Field::Kind, h);
@@ -123,8 +117,7 @@ pub fn has_slot(s: &[u64], h: u64, j: u64) -> bool
 }
 
 // Whether a satisfaction of slot j would take the latch e out of its range.
-pub fn overflows(s: &[u64], e: u64, j: u64) -> bool
-    requires { words ≤ length s.now }
+pub fn overflows(s: &Memory, e: u64, j: u64) -> bool
     ensures { result ≡ test (overflows (was s.now) e j) }
 {
     if !is_kind(s, names::EVENT, e) {
@@ -143,8 +136,7 @@ pub fn overflows(s: &[u64], e: u64, j: u64) -> bool
     tally == names::TOP_TALLY
 }
 
-pub fn is_fired_sticky(s: &[u64], e: u64) -> bool
-    requires { words ≤ length s.now }
+pub fn is_fired_sticky(s: &Memory, e: u64) -> bool
     ensures { result ≡ test (is_fired_sticky (was s.now) e) }
 {
     if !is_kind(s, names::EVENT, e) {
@@ -157,8 +149,7 @@ pub fn is_fired_sticky(s: &[u64], e: u64) -> bool
 }
 
 // Whether a delivery to slot j of d is dropped.
-pub fn drops(s: &[u64], d: u64, j: u64) -> bool
-    requires { words ≤ length s.now }
+pub fn drops(s: &Memory, d: u64, j: u64) -> bool
     ensures { result ≡ test (drops (was s.now) d j) }
 {
     if is_gone(s, d) {
@@ -171,8 +162,7 @@ pub fn drops(s: &[u64], d: u64, j: u64) -> bool
 }
 
 // How many pre-slots a task gets: 17 takes the template's count.
-pub fn task_slots(s: &[u64], template: u64, n: u64) -> u64
-    requires { words ≤ length s.now }
+pub fn task_slots(s: &Memory, template: u64, n: u64) -> u64
     ensures { result ≡ task_slots (was s.now) template n }
 {
     if n == names::UNKNOWN_COUNT {
@@ -190,17 +180,15 @@ pub fn is_full(s: &[u64], t: u64) -> bool
     let n = session::get(s, Field::TaskSlots, t as usize) as usize;
     let first = t as usize * 16;
     let mut ok = true;
-    let mut j: usize = 0;
-    while j < n {
-        ok = (1 <= session::get(s, Field::SlotMark, first + j)) & ok;
-        j += 1;
+    for j in 0..n {
+        ok &= 1 <= session::get(s, Field::SlotMark, first + j);
     }
     ok
 }
 
 // Whether a link is open or ready; callers have shown that it has a place.
-pub fn is_undelivered(s: &[u64], l: u64) -> bool
-    requires { (words ≤ length s.now) × (l ≤ most_links) }
+pub fn is_undelivered(s: &Memory, l: u64) -> bool
+    requires { l ≤ most_links }
     ensures { result ≡ test (is_undelivered (was s.now) l) }
 {
     if session::get(s, Field::LinkState, l as usize) == names::LINK_OPEN {

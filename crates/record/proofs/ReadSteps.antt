@@ -1,20 +1,29 @@
 -- One step of the loop that reads an operation's fields, and its ends.
-use Prim.Native.Nat.{ℕ, ◌+◌, ◌<◌}
+use Prim.Native.Nat.{ℕ, ◌+◌, ◌≤◌, ◌<◌}
 use mathlib.Core.List.{List, [], ◌∷◌}
 use mathlib.Core.Path.{◌≡◌, refl, ap, sym, ◌∙◌}
 use native.Mathlib.Omega.{arith}
 use native.Mathlib.Numerals.{add-one}
 use borrow.Author.Count.{below_none, below_more}
 use lib.Dec.{lit<}
-use lib.ListN.{set}
+use lib.ListN.{set, take, length}
+use Rattle.std.proofs.lemmas.List.{length-take-le}
 use Rattle.number.specs.Number.{limit32, read_at, refusal_of, value_of}
-use Rattle.number.specs.declared.Reading.TheVariants.{Value, Bad, CutShort}
+use Rattle.std.specs.Prelude.{Ok, Err}
+use Rattle.number.specs.declared.Unread.TheVariants.{Bad, CutShort}
 use Rattle.rules.specs.Checks.{check, refusal}
 use Rattle.rules.specs.Formula.{Formula, Holds, Formula.each}
 use Rattle.rules.specs.FormulaLaws.{Case, decide, Case.it_does, Case.it_does_not}
 use Rattle.record.specs.RecordReading.{place, nth, clears, five, refused_record, fields_at}
 use Rattle.record.specs.Refusals.{refusal-met, refusal_fails, refusal_empty, answered_none, answered-refused}
 use Rattle.record.specs.Fields.{place_none, place-value, place_bad, five-more}
+
+-- the fields before any is read
+abbrev pub blank : List ℕ
+blank = 0 ∷ 0 ∷ 0 ∷ 0 ∷ 0 ∷ []
+
+pub blank_front : (n : ℕ) → n ≤ 5 → length (take n blank) ≡ n
+blank_front n h = length-take-le n blank h
 
 module _ (bytes : List ℕ) (first : ℕ) where
   -- the first k fields meet a check
@@ -28,7 +37,7 @@ module _ (bytes : List ℕ) (first : ℕ) where
     pub values : refused ≡ 0 → fields ≡ five k (λ j. value_of (nth bytes first j))
     pub next_place : next ≡ place bytes first k
 
-  pub passed_none : Passed 0 (0 ∷ 0 ∷ 0 ∷ 0 ∷ 0 ∷ []) 0 first
+  pub passed_none : Passed 0 blank 0 first
   unfolding five
   passed_none = record {
     whole = below_none _;
@@ -51,11 +60,11 @@ module _ (bytes : List ℕ) (first : ℕ) where
   module _ (k : ℕ) (fields : List ℕ) (refused next : ℕ) (p : Passed k fields refused next) where
     pub passed_value : (v behind : ℕ)
         → k < 5
-        → read_at limit32 bytes next ≡ Value v behind
+        → read_at limit32 bytes next ≡ Ok (v, behind)
         → Passed (k + 1) (set fields k v) refused behind
     unfolding refusal_of value_of
     passed_value v behind l e =
-        let here : nth bytes first k ≡ Value v behind = rw (← p.next_place) e in
+        let here : nth bytes first k ≡ Ok (v, behind) = rw (← p.next_place) e in
         let clear : refusal_of (nth bytes first k) ≡ 0 = ap refusal_of here in
         let f : ℕ → ℕ = λ j. value_of (nth bytes first j) in
         let value : f k ≡ v = ap value_of here in
@@ -66,10 +75,10 @@ module _ (bytes : List ℕ) (first : ℕ) where
           next_place = rw add-one (sym (place-value bytes first k v behind here));
         }
 
-    pub passed_bad : (behind : ℕ) → read_at limit32 bytes next ≡ Bad behind → Passed (k + 1) fields 4 behind
+    pub passed_bad : (behind : ℕ) → read_at limit32 bytes next ≡ Err (Bad behind) → Passed (k + 1) fields 4 behind
     unfolding refusal_of
     passed_bad behind e =
-        let here : nth bytes first k ≡ Bad behind = rw (← p.next_place) e in
+        let here : nth bytes first k ≡ Err (Bad behind) = rw (← p.next_place) e in
         let bad : refusal_of (nth bytes first k) ≡ 4 = ap refusal_of here in
         record {
           whole = below_more _ k p.whole (λ c. omega arith);
@@ -82,7 +91,7 @@ module _ (bytes : List ℕ) (first : ℕ) where
         no z = omega arith
 
     -- a field that is cut short is the refusal, whatever stood before it
-    pub passed_cut : (code n : ℕ) → k < n → read_at limit32 bytes next ≡ CutShort → fields_at bytes code first n ≡ refused_record 3
+    pub passed_cut : (code n : ℕ) → k < n → read_at limit32 bytes next ≡ Err CutShort → fields_at bytes code first n ≡ refused_record 3
     unfolding fields_at refusal_of
     passed_cut code n l e =
         let here : refusal_of (nth bytes first k) ≡ 3 = rw (← p.next_place) (ap refusal_of e) in

@@ -1,24 +1,25 @@
 -- One step of the loop that writes an operation's fields, and what writing a record comes to.
 use Prim.Native.Nat.{ℕ, zero, suc, ◌+◌, ◌≤◌, ◌<◌}
-use mathlib.Core.List.{List, [], ◌∷◌}
+use mathlib.Core.List.{List, [], ◌∷◌, ◌++◌}
 use mathlib.Core.Path.{◌≡◌, ap, sym, ◌∙◌}
 use native.Mathlib.Decide.{dec_le}
 use native.Mathlib.Omega.{arith}
 use lib.Dec.{lit<}
-use lib.ListN.{length, length-append}
+use lib.ListN.{length, get_or, take, length-append}
+use Rattle.std.proofs.lemmas.List.{get_or-take, length-take-le}
 use Rattle.number.specs.Number.{limit32, encode, splice}
 use Rattle.number.specs.Splice.{splice_none, splice-length, splice_then}
 use Rattle.rules.specs.declared.Operation.{Operation}
-use Rattle.rules.specs.Arity.{is_code, is_edition, knows, field_count, fields_few}
+use Rattle.rules.specs.Arity.{is_code, is_edition, knows, field_count}
 use Rattle.rules.specs.Checks.{check, refusal}
 use Rattle.rules.specs.Formula.{Holds, Formula.◌≐◌, Formula.◌≼◌}
 use Rattle.rules.specs.FormulaLaws.{choose_yes, choose_no}
 use Rattle.rules.specs.Step.{arg}
-use Rattle.record.specs.declared.Place.TheVariants.{Behind, Refused}
+use Rattle.record.specs.RecordReading.{Behind, Refused}
 use Rattle.record.specs.Writing.{record_room, field_bytes, numbers_bytes, record_bytes, within, write_refusal, written_at}
 use Rattle.record.specs.Writing.{memory_after}
 use Rattle.record.specs.Refusals.{refusal-met, refusal_fails, refusal_empty, placed_none, placed-refused}
-use Rattle.record.specs.Fields.{field_bytes-more}
+use Rattle.record.specs.Fields.{field_bytes-same, field_bytes-more}
 use Rattle.record.specs.RecordRoundTrip.{record_length}
 
 -- the bytes of fewer fields are fewer
@@ -82,6 +83,27 @@ put_all out₀ at₀ f n k out at p h before used code fits place bytes =
       p.bytes ∙ rw (all, place, bytes) (splice_then before used (encode code) (field_bytes n f) fits),
     )
 
+-- The first n of an operation's fields, as a slice of them.
+module _ (n : ℕ) (fields : List ℕ) (h : n ≤ length fields) where
+  abbrev Within : List ℕ → ℕ → Type 0
+  Within xs m = Holds (within m (λ k. get_or xs k 0))
+
+  abbrev bytes_of : ℕ → List ℕ → ℕ → List ℕ
+  bytes_of code xs m = numbers_bytes code m (λ k. get_or xs k 0)
+
+  pub front_within : Within (take n fields) (length (take n fields)) → Within fields n
+  front_within w k l = omega (arith, w k (omega (arith, length-take-le n fields h)), get_or-take n fields k 0 l)
+
+  pub within_front : Within fields n → Within (take n fields) (length (take n fields))
+  within_front w k l =
+      let m : k < n = omega (arith, length-take-le n fields h) in
+      omega (arith, w k m, get_or-take n fields k 0 m)
+
+  pub front_bytes : (code : ℕ) → bytes_of code (take n fields) (length (take n fields)) ≡ bytes_of code fields n
+  front_bytes code =
+      rw (length-take-le n fields h)
+      (ap (λ (bs : List ℕ). encode code ++ bs) (field_bytes-same n _ _ (λ k l. get_or-take n fields k 0 l)))
+
 -- What writing a record comes to.
 module _ (edition : ℕ) (op : Operation) (out : List ℕ) (used : ℕ) where
   abbrev pub TurnedDown : ℕ → Type 0
@@ -132,9 +154,9 @@ module _ (edition : ℕ) (op : Operation) (out : List ℕ) (used : ℕ) where
           all_within : Holds (within (field_count op.code) (arg op))
           all_within = rw (← count) h
 
-          pub bytes_fit : (n ≤ 5) × (used + length (numbers_bytes op.code n (arg op)) ≤ length out)
+          pub bytes_fit : used + length (numbers_bytes op.code n (arg op)) ≤ length out
           unfolding record_bytes
-          bytes_fit = rw count (fields_few op.code code, omega (arith, record_length op code all_within))
+          bytes_fit = rw count (omega (arith, record_length op code all_within))
 
           pub written : (next : ℕ) (after : List ℕ)
               → next ≡ used + length (numbers_bytes op.code n (arg op))

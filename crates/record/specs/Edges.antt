@@ -5,9 +5,7 @@ use Rattle.rules.specs.declared.Operation.{Operation}
 use Rattle.rules.specs.Formula.{test}
 use Rattle.rules.specs.Checks.{refusal}
 use Rattle.rules.specs.Step.{rules, last_code}
-use Rattle.record.specs.declared.Place.{Place}
-use Rattle.record.specs.declared.Place.TheVariants.{Behind, Refused}
-use Rattle.record.specs.RecordReading.{behind, place, five, answered, placed, edition_of, record_in}
+use Rattle.record.specs.RecordReading.{Place, Behind, Refused, behind, place, five, answered, placed, edition_of, record_in}
 use Rattle.record.specs.Writing.{field_bytes, record_bytes, written_at}
 use Rattle.record.specs.Sheet.{head_at, records_bytes, sheet_of, records_from, contents}
 

@@ -1,9 +1,9 @@
 -- The numbers of a record: the five places of an operation's fields, and their bytes.
-use Rattle.std.specs.Prelude.{ℕ, zero, suc, ◌+◌, ◌*◌, ◌≤◌, ◌<◌, Bool, true, false, List, ◌++◌, ◌≡◌, refl, ltb, length, drop, get_or, set}
+use Rattle.std.specs.Prelude.{ℕ, zero, suc, ◌+◌, ◌*◌, ◌≤◌, ◌<◌, Bool, true, false, List, ◌++◌, ◌≡◌, refl, ltb, length, drop, get_or, set, Ok, Err}
 use Rattle.std.proofs.Common.{append_assoc, ap, sym, ◌∙◌, arith, add-one, length-append, below_none, below_more, lt-ltb, ltb-true}
 use Rattle.number.specs.Number.{AreBytes, limit32, encode, value_of}
 use Rattle.number.specs.NumberRoundTrip.{read_back, rewritten, value-next, length_32, stands_behind}
-use Rattle.number.specs.declared.Reading.TheVariants.{Value, Bad}
+use Rattle.number.specs.declared.Unread.TheVariants.{Bad}
 use Rattle.session.specs.Table.{pick}
 use Rattle.rules.specs.Formula.{Holds}
 use Rattle.record.specs.RecordReading.{behind, place, nth, one_of, five}
@@ -81,11 +81,11 @@ pub place_none : (bytes : List ℕ) (at : ℕ) → place bytes at 0 ≡ at
 unfolding place
 place_none bytes at = refl
 
-pub place-value : (bytes : List ℕ) (at k v next : ℕ) → nth bytes at k ≡ Value v next → place bytes at (suc k) ≡ next
+pub place-value : (bytes : List ℕ) (at k v next : ℕ) → nth bytes at k ≡ Ok (v, next) → place bytes at (suc k) ≡ next
 unfolding place behind
 place-value bytes at k v next e = rw e
 
-pub place_bad : (bytes : List ℕ) (at k next : ℕ) → nth bytes at k ≡ Bad next → place bytes at (suc k) ≡ next
+pub place_bad : (bytes : List ℕ) (at k next : ℕ) → nth bytes at k ≡ Err (Bad next) → place bytes at (suc k) ≡ next
 unfolding place behind
 place_bad bytes at k next e = rw e
 
@@ -95,7 +95,7 @@ up_to P n before here k l = below_more P n before here k (omega arith)
 
 -- Fields whose bytes stand at a place are read there.
 pub record Back (bytes : List ℕ) (first n : ℕ) (f : ℕ → ℕ) : Type 0 where
-  pub reads : (k : ℕ) → k < n → nth bytes first k ≡ Value (f k) (place bytes first (suc k))
+  pub reads : (k : ℕ) → k < n → nth bytes first k ≡ Ok (f k, place bytes first (suc k))
   pub ends : place bytes first n ≡ first + length (field_bytes n f)
 
 pub fields_back : (bytes : List ℕ) (first n : ℕ) (f : ℕ → ℕ) (rest : List ℕ)
@@ -113,13 +113,13 @@ fields_back bytes first (suc n) f rest h s =
     let here = read_back limit32 bytes (place bytes first n) (f n) rest (h n (omega arith)) stands in
     let next = place-value bytes first n (f n) (place bytes first n + length (encode (f n))) here in
     record {
-      reads = up_to (λ k. nth bytes first k ≡ Value (f k) (place bytes first (suc k))) n b.reads (rw next here);
+      reads = up_to (λ k. nth bytes first k ≡ Ok (f k, place bytes first (suc k))) n b.reads (rw next here);
       ends = omega (arith, next, b.ends, length-append (field_bytes n f) (encode (f n)));
     }
 
 -- Fields that were read lie in the bytes and are within the limit, and written anew they have the same bytes.
 abbrev pub AllRead : List ℕ → ℕ → ℕ → Type 0
-AllRead bytes first n = (k : ℕ) → k < n → nth bytes first k ≡ Value (value_of (nth bytes first k)) (place bytes first (suc k))
+AllRead bytes first n = (k : ℕ) → k < n → nth bytes first k ≡ Ok (value_of (nth bytes first k), place bytes first (suc k))
 
 pub record Onward (bytes : List ℕ) (first n : ℕ) : Type 0 where
   pub onward : first ≤ place bytes first n

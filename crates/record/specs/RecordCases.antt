@@ -1,49 +1,52 @@
 -- What reading a record gives, case by case.
-use Rattle.std.specs.Prelude.{ℕ, ◌<◌, List}
+use Rattle.std.specs.Prelude.{ℕ, ◌<◌, List, Some, None, Ok, Err}
 use Rattle.std.proofs.Math.Path.{◌≡◌, ap}
 use Rattle.std.proofs.Common.{sym, ◌∙◌, lit<}
 use native.Mathlib.Omega.{arith}
 use Rattle.number.specs.Number.{limit32, read_at, refusal_of, value_of}
-use Rattle.number.specs.declared.Reading.TheVariants.{Value, Bad, CutShort}
-use Rattle.rules.specs.declared.Arity.TheVariants.{Fields, Unknown}
+use Rattle.number.specs.declared.Unread.TheVariants.{Bad, CutShort}
 use Rattle.rules.specs.Arity.{knows, arity_of, field_count}
 use Rattle.rules.specs.Checks.{refusal}
 use Rattle.rules.specs.Formula.{Holds, Formula.each}
 use Rattle.rules.specs.FormulaLaws.{Case, decide, choose_yes, choose_no, Case.it_does, Case.it_does_not}
 use Rattle.record.specs.RecordReading.{behind, place, nth, clears, refused_record, answered, operation_at, fields_at, code_at}
 use Rattle.record.specs.RecordReading.{first_field, count_at, record_checks, record_in}
-use Rattle.record.specs.Refusals.{is-value, refusal-met, refusal_fails, refusal_none, refusal_empty, number_cut, number_bad}
+use Rattle.record.specs.Refusals.{is-value, refusal-met, refusal_fails, refusal_none, refusal_empty, number_cut, number_bad, number_unread}
 use Rattle.record.specs.Refusals.{number-value, number_none, answered_none, answered-refused, answered-number}
 use Rattle.record.specs.Fields.{AllRead}
 
 module _ (edition code : ℕ) where
   -- What the number of fields tells of the code.
-  pub arity_known : (n : ℕ) → arity_of edition code ≡ Fields n → Holds (knows edition code) × (n ≡ field_count code)
+  pub arity_known : (n : ℕ) → arity_of edition code ≡ Some n → Holds (knows edition code) × (n ≡ field_count code)
   unfolding arity_of
   arity_known n e = go (decide (knows edition code))
     where
       go : Case (knows edition code) → Holds (knows edition code) × (n ≡ field_count code)
-      go (it_does h) = (h, cc (choose_yes (knows edition code) (Fields (field_count code)) Unknown h))
+      go (it_does h) = (h, cc (choose_yes (knows edition code) (Some (field_count code)) None h))
       go (it_does_not u) =
-          let z : ◌≡◌ {A = ℕ} 0 1 = cc (choose_no (knows edition code) (Fields (field_count code)) Unknown u) in
+          let z : ◌≡◌ {A = ℕ} 0 1 = cc (choose_no (knows edition code) (Some (field_count code)) None u) in
           absurd (omega arith)
 
-  pub arity_unknown : arity_of edition code ≡ Unknown → Holds (knows edition code) → ⊥
+  pub arity_unknown : arity_of edition code ≡ None → Holds (knows edition code) → ⊥
   unfolding arity_of
   arity_unknown e h =
-      let z : ◌≡◌ {A = ℕ} 0 1 = cc (choose_yes (knows edition code) (Fields (field_count code)) Unknown h) in
+      let z : ◌≡◌ {A = ℕ} 0 1 = cc (choose_yes (knows edition code) (Some (field_count code)) None h) in
       omega arith
 
 module _ (edition : ℕ) (bytes : List ℕ) (at : ℕ) where
-  pub record_cut : read_at limit32 bytes at ≡ CutShort → record_in edition bytes at ≡ refused_record 3
+  pub record_cut : read_at limit32 bytes at ≡ Err CutShort → record_in edition bytes at ≡ refused_record 3
   unfolding record_in
   record_cut e = answered-refused _ _ _ 3 (lit< tt) (number_cut _ _ e)
 
-  pub record_bad : (next : ℕ) → read_at limit32 bytes at ≡ Bad next → record_in edition bytes at ≡ refused_record 4
+  pub record_bad : (next : ℕ) → read_at limit32 bytes at ≡ Err (Bad next) → record_in edition bytes at ≡ refused_record 4
   unfolding record_in
   record_bad next e = answered-refused _ _ _ 4 (lit< tt) (number_bad _ _ next e)
 
-  module _ (code first : ℕ) (e : read_at limit32 bytes at ≡ Value code first) where
+  pub record_unread : (n : ℕ) → 0 < n → refusal_of (read_at limit32 bytes at) ≡ n → record_in edition bytes at ≡ refused_record n
+  unfolding record_in
+  record_unread n p e = answered-refused _ _ _ n p (number_unread _ _ n p e)
+
+  module _ (code first : ℕ) (e : read_at limit32 bytes at ≡ Ok (code, first)) where
     pub record_unknown : (Holds (knows edition code) → ⊥) → record_in edition bytes at ≡ refused_record 6
     unfolding record_in value_of
     record_unknown u =
@@ -71,7 +74,7 @@ fields_read bytes code first n all =
 
 -- A record without a refusal: its numbers are all read, and it is what they say.
 pub record Read (edition : ℕ) (bytes : List ℕ) (at : ℕ) : Type 0 where
-  pub code_read : read_at limit32 bytes at ≡ Value (code_at bytes at) (first_field bytes at)
+  pub code_read : read_at limit32 bytes at ≡ Ok (code_at bytes at, first_field bytes at)
   pub known : Holds (knows edition (code_at bytes at))
   pub fields : AllRead bytes (first_field bytes at) (count_at bytes at)
   pub says : record_in edition bytes at

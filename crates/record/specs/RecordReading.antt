@@ -1,23 +1,33 @@
 -- A record of a sheet, read at a place: an operation's code, then its fields (document 01, "Why an operation is turned down"
 -- and "Sheets and lines"). All of it follows from the edition, the bytes and the place alone.
-use Rattle.std.specs.Prelude.{ℕ, zero, suc, List, [], ◌∷◌, ltb}
-use Rattle.number.specs.Number.{limit32, read_at, refusal_of, value_of}
-use Rattle.number.specs.declared.Reading.{Reading}
-use Rattle.number.specs.declared.Reading.TheVariants.{Value, Bad, CutShort}
+use Rattle.std.specs.Prelude.{ℕ, zero, suc, List, [], ◌∷◌, ltb, Result, Ok, Err}
+use Rattle.number.specs.Number.{limit32, read_at, refusal_of, value_of, Reading}
+use Rattle.number.specs.declared.Unread.TheVariants.{Bad, CutShort}
 use Rattle.session.specs.Table.{pick}
 use Rattle.rules.specs.declared.Operation.{Operation}
+use Rattle.rules.specs.declared.refusals.Refusal.{Refusal}
+use Rattle.rules.specs.Refusals.{number}
 use Rattle.rules.specs.Arity.{field_count, knows}
 use Rattle.rules.specs.Checks.{Check, check, refusal}
 use Rattle.rules.specs.Formula.{Formula, not, choose, Formula.◌≐◌, Formula.each}
-use Rattle.record.specs.declared.Record.{Record}
-use Rattle.record.specs.declared.Place.{Place}
-use Rattle.record.specs.declared.Place.TheVariants.{Behind, Refused}
+
+-- What reading a record gives: the refusal (0 if there is none), the operation, and the place behind the record. Under a refusal
+-- the operation and the place are 0, and so are the fields past those that the operation has.
+pub record Record : Type 0 where
+  pub refused : ℕ
+  pub operation : Operation
+  pub next : ℕ
+
+-- The place behind what was read or written, or the number of the check that failed.
+pub data Place : Type 0 where
+  Behind : ℕ → Place
+  Refused : ℕ → Place
 
 -- the place behind a number that was read at a place; one that is cut short has none, and the place stays
 unfoldable pub behind : ℕ → Reading → ℕ
-behind at (Value v next) = next
-behind at (Bad next) = next
-behind at CutShort = at
+behind at (Ok (v, next)) = next
+behind at (Err (Bad next)) = next
+behind at (Err CutShort) = at
 
 -- The place behind the first k numbers from a place on, and the number that stands there.
 unfoldable pub place : List ℕ → ℕ → ℕ → ℕ
@@ -52,6 +62,16 @@ refused_record n = record { refused = n; operation = operation 0 0 (λ k. 0); ne
 
 unfoldable pub answered : ℕ → Operation → ℕ → Record
 answered n op next = choose (n ≐ 0) (record { refused = 0; operation = op; next = next }) (refused_record n)
+
+-- the record that a function gives
+abbrev pub record_told : Result (Operation × ℕ) Refusal → Record
+record_told (Ok read) = record { refused = 0; operation = read.0; next = read.1 }
+record_told (Err why) = refused_record (number why)
+
+-- the place that a function gives
+abbrev pub place_told : Result ℕ Refusal → Place
+place_told (Ok next) = Behind next
+place_told (Err why) = Refused (number why)
 
 -- The place behind what was read or written, or the refusal.
 unfoldable pub placed : ℕ → ℕ → Place

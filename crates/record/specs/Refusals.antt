@@ -1,23 +1,21 @@
 -- The refusal of a list of checks, one check at a time, what a number's reading meets, and what an answer says.
-use Rattle.std.specs.Prelude.{ℕ, ◌≤◌, ◌<◌, ◌≡◌, refl, List, [], ◌∷◌}
+use Rattle.std.specs.Prelude.{ℕ, ◌≤◌, ◌<◌, ◌≡◌, refl, List, [], ◌∷◌, Ok, Err}
 use Rattle.std.proofs.Math.Path.{ap}
 use Rattle.std.proofs.Common.{sym, ◌∙◌, arith, lit<}
-use Rattle.number.specs.declared.Reading.{Reading}
-use Rattle.number.specs.declared.Reading.TheVariants.{Value, Bad, CutShort}
-use Rattle.number.specs.Number.{refusal_of, value_of}
+use Rattle.number.specs.declared.Unread.TheVariants.{Bad, CutShort}
+use Rattle.number.specs.Number.{refusal_of, value_of, Reading}
 use Rattle.rules.specs.declared.Operation.{Operation}
 use Rattle.rules.specs.Checks.{Check, check, refusal}
 use Rattle.rules.specs.Formula.{Formula, Holds, Formula.◌≐◌}
 use Rattle.rules.specs.FormulaLaws.{Case, decide, choose_yes, choose_no, Case.it_does, Case.it_does_not}
-use Rattle.record.specs.declared.Place.TheVariants.{Behind, Refused}
-use Rattle.record.specs.RecordReading.{behind, clears, number_checks, answered, refused_record, placed}
+use Rattle.record.specs.RecordReading.{Behind, Refused, behind, clears, number_checks, answered, refused_record, placed}
 
 -- A reading that is not refused is a value, and the place behind it.
-pub is-value : (at : ℕ) (r : Reading) → (refusal_of r ≡ 3 → ⊥) → (refusal_of r ≡ 4 → ⊥) → r ≡ Value (value_of r) (behind at r)
+pub is-value : (at : ℕ) (r : Reading) → (refusal_of r ≡ 3 → ⊥) → (refusal_of r ≡ 4 → ⊥) → r ≡ Ok (value_of r, behind at r)
 unfolding refusal_of value_of behind
-is-value at (Value v next) p q = refl
-is-value at (Bad next) p q = absurd (q refl)
-is-value at CutShort p q = absurd (p refl)
+is-value at (Ok (v, next)) p q = refl
+is-value at (Err (Bad next)) p q = absurd (q refl)
+is-value at (Err CutShort) p q = absurd (p refl)
 
 module _ (n : ℕ) (f : Formula) (cs : List Check) where
   -- a check that is met is passed, and one that fails is the refusal
@@ -60,17 +58,24 @@ refusal_empty = refl
 
 -- What a number's reading meets.
 module _ (cs : List Check) where
-  pub number_cut : (r : Reading) → r ≡ CutShort → refusal (number_checks r cs) ≡ 3
+  pub number_cut : (r : Reading) → r ≡ Err CutShort → refusal (number_checks r cs) ≡ 3
   unfolding refusal_of
   number_cut r e = refusal_fails 3 (clears 3 r) _ (λ c. c (ap refusal_of e))
 
-  pub number_bad : (r : Reading) (next : ℕ) → r ≡ Bad next → refusal (number_checks r cs) ≡ 4
+  pub number_bad : (r : Reading) (next : ℕ) → r ≡ Err (Bad next) → refusal (number_checks r cs) ≡ 4
   unfolding refusal_of
   number_bad r next e =
       refusal-met 3 (clears 3 r) _ (λ c. (let f = ap refusal_of e in omega arith))
       ∙ refusal_fails 4 (clears 4 r) cs (λ c. c (ap refusal_of e))
 
-  pub number-value : (r : Reading) (v next : ℕ) → r ≡ Value v next → refusal (number_checks r cs) ≡ refusal cs
+  -- a number that is not read is refused
+  pub number_unread : (r : Reading) (n : ℕ) → 0 < n → refusal_of r ≡ n → refusal (number_checks r cs) ≡ n
+  unfolding refusal_of
+  number_unread (Ok read) n p e = absurd (omega arith)
+  number_unread (Err (Bad next)) n p e = number_bad (Err (Bad next)) next refl ∙ e
+  number_unread (Err CutShort) n p e = number_cut (Err CutShort) refl ∙ e
+
+  pub number-value : (r : Reading) (v next : ℕ) → r ≡ Ok (v, next) → refusal (number_checks r cs) ≡ refusal cs
   unfolding refusal_of
   number-value r v next e =
       let f = ap refusal_of e in
@@ -78,7 +83,7 @@ module _ (cs : List Check) where
 
   pub number_none : (at : ℕ) (r : Reading)
       → refusal (number_checks r cs) ≡ 0
-      → (r ≡ Value (value_of r) (behind at r)) × (refusal cs ≡ 0)
+      → (r ≡ Ok (value_of r, behind at r)) × (refusal cs ≡ 0)
   number_none at r e =
       let c3 = refusal_none 3 (clears 3 r) _ (lit< tt) e in
       let c4 = refusal_none 4 (clears 4 r) cs (lit< tt) c3.1 in

@@ -5,9 +5,7 @@ use Rattle.rules.specs.declared.Operation.{Operation}
 use Rattle.rules.specs.Checks.{Check, check, refusal}
 use Rattle.rules.specs.Arity.{is_edition}
 use Rattle.rules.specs.Formula.{choose, Formula.◌≐◌, Formula.◌≼◌}
-use Rattle.record.specs.declared.Place.{Place}
-use Rattle.record.specs.declared.Record.{Record}
-use Rattle.record.specs.RecordReading.{behind, number_checks, placed, edition_of, record_at}
+use Rattle.record.specs.RecordReading.{Place, Record, behind, number_checks, placed, edition_of, record_at}
 use Rattle.record.specs.Writing.{record_bytes}
 
 -- "5. The sheet's first number is not 1." Document 02, E4: "Check 5 now turns down a first number other than 1 or 2."

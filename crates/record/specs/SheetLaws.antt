@@ -2,22 +2,20 @@
 -- of contents: it is given nothing else.)
 use Prim.Native.Nat.{ℕ, zero, suc, ◌+◌, ◌≤◌, ◌<◌}
 use mathlib.Core.List.{List, [], ◌∷◌, ◌++◌, map}
-use Rattle.std.specs.Prelude.{◌≡◌, drop}
+use Rattle.std.specs.Prelude.{◌≡◌, drop, Ok, Err}
 use Rattle.std.proofs.Math.Path.{refl, ap}
 use Rattle.std.proofs.Common.{sym, ◌∙◌, lit<, drop_of_length-le}
 use native.Mathlib.Omega.{arith}
 use Rattle.std.proofs.Math.ListN.{length, length-append, length-drop}
-use Rattle.number.specs.Number.{AreBytes, limit32, encode, read_at, value_of}
+use Rattle.number.specs.Number.{AreBytes, limit32, encode, read_at, value_of, refusal_of}
 use Rattle.number.specs.NumberRoundTrip.{read_back, rewritten, stands_behind}
-use Rattle.number.specs.declared.Reading.TheVariants.{Value, Bad, CutShort}
+use Rattle.number.specs.declared.Unread.TheVariants.{Bad, CutShort}
 use Rattle.rules.specs.declared.Operation.{Operation}
 use Rattle.rules.specs.Arity.{is_edition}
 use Rattle.rules.specs.Formula.{Holds, Formula.◌≐◌, Formula.◌≼◌}
 use Rattle.rules.specs.FormulaLaws.{Case, decide, choose_yes, choose_no, Case.it_does, Case.it_does_not}
-use Rattle.record.specs.declared.Record.{Record}
-use Rattle.record.specs.declared.Place.TheVariants.{Behind, Refused}
-use Rattle.record.specs.RecordReading.{behind, edition_of, record_at}
-use Rattle.record.specs.Refusals.{refusal-met, refusal_fails, refusal_none, refusal_empty, number_cut, number_bad}
+use Rattle.record.specs.RecordReading.{Record, Behind, Refused, behind, edition_of, record_at}
+use Rattle.record.specs.Refusals.{refusal-met, refusal_fails, refusal_none, refusal_empty, number_cut, number_bad, number_unread}
 use Rattle.record.specs.Refusals.{number-value, number_none, placed_none, placed-refused}
 use Rattle.record.specs.RecordRoundTrip.{record_some, record_back, record_forward, record_again}
 use Rattle.record.specs.Writing.{record_bytes, is_recordable, own}
@@ -120,15 +118,19 @@ module _ (bytes : List ℕ) where
 
 -- The head of a sheet, case by case.
 module _ (bytes : List ℕ) where
-  pub head-cut : read_at limit32 bytes 0 ≡ CutShort → head_at bytes ≡ Refused 3
+  pub head-cut : read_at limit32 bytes 0 ≡ Err CutShort → head_at bytes ≡ Refused 3
   unfolding head_at
   head-cut e = placed-refused _ _ 3 (lit< tt) (number_cut _ _ e)
 
-  pub head_bad : (next : ℕ) → read_at limit32 bytes 0 ≡ Bad next → head_at bytes ≡ Refused 4
+  pub head_bad : (next : ℕ) → read_at limit32 bytes 0 ≡ Err (Bad next) → head_at bytes ≡ Refused 4
   unfolding head_at
   head_bad next e = placed-refused _ _ 4 (lit< tt) (number_bad _ _ next e)
 
-  module _ (edition first : ℕ) (e : read_at limit32 bytes 0 ≡ Value edition first) where
+  pub head_unread : (n : ℕ) → 0 < n → refusal_of (read_at limit32 bytes 0) ≡ n → head_at bytes ≡ Refused n
+  unfolding head_at
+  head_unread n p e = placed-refused _ _ n p (number_unread _ _ n p e)
+
+  module _ (edition first : ℕ) (e : read_at limit32 bytes 0 ≡ Ok (edition, first)) where
     pub head-other : (Holds (is_edition edition) → ⊥) → head_at bytes ≡ Refused 5
     unfolding head_at value_of
     head-other n =
@@ -143,7 +145,7 @@ module _ (bytes : List ℕ) where
     head_edition is = placed_none _ _ (head-met is) ∙ rw e
 
   pub head_none : head_refusal bytes ≡ 0
-      → (read_at limit32 bytes 0 ≡ Value (edition_of bytes) (first_record bytes)) × Holds (is_edition (edition_of bytes))
+      → (read_at limit32 bytes 0 ≡ Ok (edition_of bytes, first_record bytes)) × Holds (is_edition (edition_of bytes))
   head_none e =
       let n = number_none _ 0 (read_at limit32 bytes 0) e in
       (n.0, (refusal_none 5 _ [] (lit< tt) n.1).0)

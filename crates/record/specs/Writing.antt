@@ -6,8 +6,7 @@ use Rattle.rules.specs.Arity.{is_edition, knows, field_count}
 use Rattle.rules.specs.Checks.{Check, check, refusal}
 use Rattle.rules.specs.Formula.{Formula, choose, Formula.◌≐◌, Formula.◌≼◌, Formula.◌and◌, Formula.each}
 use Rattle.rules.specs.Step.{arg}
-use Rattle.record.specs.declared.Place.{Place}
-use Rattle.record.specs.RecordReading.{operation, placed}
+use Rattle.record.specs.RecordReading.{Place, operation, placed}
 
 -- "the line or record memory has under 32 bytes free"
 abbrev pub record_room : ℕ

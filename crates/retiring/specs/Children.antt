@@ -1,12 +1,13 @@
 -- The tasks that a task made, and its live descendants: a task that made none has no descendant.
-use Rattle.std.specs.Prelude.{ℕ, zero, suc, ◌+◌, ◌≤◌, ◌<◌, ◌≡◌, ◌⊎◌, false}
-use Rattle.std.proofs.Common.{subst, inl, inr, arith, sym}
+use Rattle.std.specs.Prelude.{ℕ, zero, suc, ◌+◌, ◌≤◌, ◌<◌, ◌≡◌, ◌⊎◌, false, eqb}
+use Rattle.std.proofs.Common.{subst, inl, inr, arith, sym, true, ◌∙◌}
+use Rattle.std.proofs.lemmas.Bool.Decides.{eqb_tells}
 use Rattle.std.proofs.Math.Decide.{dec_lt}
 use Rattle.session.specs.Table.{Session}
 use Rattle.session.specs.declared.Field.TheVariants.{Objects, TaskState, TaskCreator}
 use Rattle.session.specs.Names.{resolved, running, task_destroyed}
 use Rattle.rules.specs.Formula.{Formula, Holds, test, Formula.◌≐◌, Formula.◌≼◌, Formula.◌and◌, Formula.some}
-use Rattle.rules.specs.FormulaLaws.{test-same, fails}
+use Rattle.rules.specs.FormulaLaws.{test-same, passes, fails}
 use Rattle.rules.specs.Reading.{is_live}
 use Rattle.rules.specs.Descendants.{under, busy}
 use Rattle.rules.specs.Sound.{sound, creator, task_part}
@@ -42,6 +43,25 @@ none_next s h last d r before n p i l q = go (dec_lt i d) (dec_lt d i)
     go (yes a) b = before i a q
     go (no a) (yes b) = p.others i (omega arith) l q.0
     go (no a) (no b) = let e : i ≡ d = omega arith in n (subst (λ (k : ℕ). Holds (is_child s h last k)) e q)
+
+-- those up to the next that h made, and that one, which is no such child
+pub none_past : (s : Session) (h last b d : ℕ) → NoneBefore s h last b → Passed s TaskCreator h b d → (s TaskState d ≤ last → ⊥)
+    → NoneBefore s h last (d + 1)
+none_past s h last b d before p n i l q = go (dec_lt i b) (dec_lt i d)
+  where
+    go : Dec (i < b) → Dec (i < d) → ⊥
+    go (yes a) c = before i a q
+    go (no a) (yes c) = p.others i (omega arith) c q.0
+    go (no a) (no c) = let e : i ≡ d = omega arith in n (subst (λ (k : ℕ). s TaskState k ≤ last) e q.1)
+
+-- where there is none up to the count, none is one
+pub none_child : (s : Session) (h last b : ℕ) → NoneBefore s h last b → Passed s TaskCreator h b (s Objects 0 + 1)
+    → Holds (has_child s h last) → ⊥
+none_child s h last b before p y = go (dec_lt y.0 b)
+  where
+    go : Dec (y.0 < b) → ⊥
+    go (yes a) = before y.0 a y.2
+    go (no a) = p.others y.0 (omega arith) y.1 y.2.0
 
 -- no task was made by h
 abbrev pub Childless : Session → ℕ → Type 0
@@ -93,6 +113,14 @@ module _ (s : Session) (x : Tidy s) (d a : ℕ) (m : 1 ≤ a) (l : d ≤ s Objec
       other : (c d ≡ a) ⊎ Holds (under c (c d) (c d) a) → Holds (under c (c d) (c d) a)
       other (inl e) = absurd (omega arith)
       other (inr y) = y
+
+  -- a creator that is not higher than a decides
+  pub below_least : c d ≤ a → eqb (c d) a ≡ test (under c d d a)
+  below_least b = go (eqb_tells (c d) a)
+    where
+      go : ((eqb (c d) a ≡ true) × (c d ≡ a)) ⊎ ((eqb (c d) a ≡ false) × (c d ≡ a → ⊥)) → eqb (c d) a ≡ test (under c d d a)
+      go (inl x) = x.0 ∙ sym (passes (under c d d a) (below_here x.1))
+      go (inr x) = let n = x.1 in x.0 ∙ sym (fails (under c d d a) (below_none (omega arith)))
 
   -- who descends from a task is one
   pub live_below : s TaskState d ≤ running → test (under c d d a) ≡ test (is_live s d and under c d d a)

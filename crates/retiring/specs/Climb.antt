@@ -1,7 +1,8 @@
 -- Who can be done once a task has ended or was destroyed: the task itself, and those above it that are reached over tasks that
 -- are not live. Of any other the output event fired when it should have.
 use Rattle.std.specs.Prelude.{ℕ, zero, suc, ◌+◌, ◌-◌, ◌≤◌, ◌<◌, ◌≡◌, refl, List, ◌⊎◌, length, get_or, set, replicate}
-use Rattle.std.proofs.Common.{sym, subst, ◌∙◌, inl, inr, arith, get_or-set_same, get_or-set_other}
+use Rattle.std.specs.Prelude.{Option, Some, None}
+use Rattle.std.proofs.Common.{sym, subst, ap, ◌∙◌, inl, inr, arith, get_or-set_same, get_or-set_other}
 use Rattle.std.proofs.Math.Decide.{dec_lt}
 use Rattle.std.proofs.lemmas.List.{get_or-replicate, length-replicate}
 use Rattle.std.proofs.Math.ListN.{get_or-eq_default}
@@ -9,7 +10,7 @@ use Rattle.session.specs.Table.{Session, put, change}
 use Rattle.session.specs.declared.Field.TheVariants.{Objects, Kind, TaskState, TaskCreator, TaskFinish, TaskOutput, EventState}
 use Rattle.session.specs.declared.Field.TheVariants.{EventType}
 use Rattle.session.specs.Names.{event, running, ended, fired, destroyed_fired, destroyed_unfired}
-use Rattle.session.specs.Names.{most_objects, object_places}
+use Rattle.session.specs.Names.{object_places}
 use Rattle.rules.specs.Formula.{Holds, choose, Formula.◌≐◌, Formula.◌≼◌, Formula.◌and◌}
 use Rattle.rules.specs.FormulaLaws.{Case, decide, choose_yes, choose_no, Case.it_does, Case.it_does_not, choose_case}
 use Rattle.rules.specs.Reading.{made}
@@ -17,8 +18,10 @@ use Rattle.rules.specs.Sound.{outputs}
 use Rattle.rules.specs.Effects.{finishes, let_go, bury_doomed, fire, fire_one, fire_finished, destroy_event}
 use Rattle.rules.specs.Descendants.{under, busy}
 use Rattle.laws.specs.Places.{Places, places, put_there, Places.one, Places.two}
-use Rattle.laws.specs.Under.{Falls, under-made, under_down, under_up}
+use Rattle.laws.specs.Under.{under-made, under_down, under-through}
 use Rattle.laws.specs.Conjuncts.{finishes_by_name, output_by_name, Output.fires_with}
+use Rattle.retiring.specs.declared.climbing.Found.{Found}
+use Rattle.retiring.specs.declared.climbing.Found.TheVariants.{Nothing, One, Several}
 use Rattle.retiring.specs.TidyUnderWay.{Tidy}
 use Rattle.retiring.specs.Finish.{Marks, one_fires, fires_nothing}
 use Rattle.retiring.specs.RetiringParts.{output_destroyed, output_fired, ending}
@@ -37,14 +40,18 @@ pub record OnlyAbove (s : Session) (h : ℕ) : Type 0 where
 abbrev pub OnlyOne : Session → ℕ → Type 0
 OnlyOne s e = (k : ℕ) → Holds (finishes s k) → k ≡ e
 
--- A climb has come to h: what is marked finishes, and what finishes is marked or reached from h. found is 0 where nothing is
--- marked, the event where it is one, and a number past every handle where there may be more.
-pub record Climbed (s : Session) (m : List ℕ) (found h : ℕ) : Type 0 where
+-- what the marks are where so much was found: none, that of one event, or several
+abbrev pub Marked : List ℕ → Found → Type 0
+Marked m Nothing = (e : ℕ) → get_or m e 0 ≡ 1 → ⊥
+Marked m (One e) = (get_or m e 0 ≡ 1) × ((k : ℕ) → get_or m k 0 ≡ 1 → k ≡ e)
+Marked m Several = Unit {0}
+
+-- A climb has come to h: what is marked finishes, and what finishes is marked or reached from h.
+pub record Climbed (s : Session) (m : List ℕ) (found : Found) (h : ℕ) : Type 0 where
   pub known : h ≤ s Objects 0
   pub sure : (e : ℕ) → get_or m e 0 ≡ 1 → Holds (finishes s e)
   pub reached : (e : ℕ) → Holds (finishes s e) → (get_or m e 0 ≡ 1) ⊎ Reached (s TaskCreator) h (e - 1)
-  pub alone : found ≤ most_objects → (e : ℕ) → get_or m e 0 ≡ 1 → e ≡ found
-  pub there : 1 ≤ found → found ≤ most_objects → get_or m found 0 ≡ 1
+  pub marked : Marked m found
 
 -- an event is made
 pub event-made : (s : Session) → Tidy s → (e : ℕ) → s Kind e ≡ event → Holds (made s e)
@@ -81,22 +88,27 @@ creator_none s h z = go (decide (s TaskState (s TaskCreator h) ≼ running))
     go (it_does live) = creator-live s h live
     go (it_does_not n) = creator-done s h n ∙ z
 
--- whoever stands above one who stands above d stands above d
-under-through : (s : Session) → Falls s → (k d h a : ℕ) → d ≤ s Objects 0 → Holds (under (s TaskCreator) k d h)
-    → Holds (under (s TaskCreator) h h a) → Holds (under (s TaskCreator) d d a)
-unfolding under
-under-through s falls zero d h a l x y = absurd x
-under-through s falls (suc k) d h a l x y =
-    let f = falls d l x.0 in
-    under_up s falls d a l x.0 (inr (go f (under-through s falls k (s TaskCreator d) h a) x.1))
-  where
-    c : ℕ → ℕ
-    c = s TaskCreator
+-- a handle, if there is one: the rules have 0 where there is none
+abbrev pub handle : ℕ → Option ℕ
+handle zero = None
+handle (suc n) = Some (suc n)
 
-    go : c d < d → (c d ≤ s Objects 0 → Holds (under c k (c d) h) → Holds (under c h h a) → Holds (under c (c d) (c d) a))
-        → (c d ≡ h) ⊎ Holds (under c k (c d) h) → Holds (under c (c d) (c d) a)
-    go f r (inl e) = subst (λ (i : ℕ). Holds (under c i i a)) (sym e) y
-    go f r (inr u) = r (omega arith) u y
+pub handle_some : (c : ℕ) → (c ≡ 0 → ⊥) → handle c ≡ Some c
+handle_some zero n = absurd (n refl)
+handle_some (suc c) n = refl
+
+pub none_handle : (c : ℕ) → handle c ≡ None → c ≡ 0
+none_handle zero e = refl
+none_handle (suc c) e = cc
+
+pub some_handle : (c k : ℕ) → handle c ≡ Some k → (c ≡ k) × (1 ≤ k)
+some_handle zero k e = cc
+some_handle (suc c) k e = let q : suc c ≡ k = cc in (q, omega arith)
+
+-- a live creator is none that is done, as the code reads it
+pub live_creator_none : (s : Session) (h c v : ℕ) → c ≡ s TaskCreator h → v ≡ s TaskState c → v ≤ running
+    → None ≡ handle (done_creator s h)
+live_creator_none s h c v e f l = ap handle (live_creator_read s h c v e f l)
 
 module _ (s : Session) (x : Tidy s) (h : ℕ) (l : h ≤ s Objects 0) where
   abbrev c : ℕ → ℕ
@@ -158,15 +170,14 @@ module _ (s : Session) (x : Tidy s) (h : ℕ) (l : h ≤ s Objects 0) where
       go (inl q) = let m = r.0 in inl (own (omega arith))
       go (inr u) = inr (up (above u) (decide (s TaskState (c h) ≼ running)))
 
-  module _ (m : List ℕ) (found : ℕ) (some : 1 ≤ h) (y : Climbed s m found h) where
+  module _ (m : List ℕ) (found : Found) (some : 1 ≤ h) (y : Climbed s m found h) where
     -- nothing above a busy task finishes
     pub climbed-busy : Holds (busy s h) → Climbed s m found 0
     climbed-busy b = record {
       known = omega arith;
       sure = y.sure;
       reached = λ e f. go e f (y.reached e f);
-      alone = y.alone;
-      there = y.there;
+      marked = y.marked;
     }
       where
         go : (e : ℕ) → Holds (finishes s e) → (get_or m e 0 ≡ 1) ⊎ Reached c h (e - 1)
@@ -180,8 +191,7 @@ module _ (s : Session) (x : Tidy s) (h : ℕ) (l : h ≤ s Objects 0) where
       known = let d = done_lower some in let k = y.known in omega arith;
       sure = y.sure;
       reached = λ e f. go e f (y.reached e f);
-      alone = y.alone;
-      there = y.there;
+      marked = y.marked;
     }
       where
         go : (e : ℕ) → Holds (finishes s e) → (get_or m e 0 ≡ 1) ⊎ Reached c h (e - 1)
@@ -190,14 +200,13 @@ module _ (s : Session) (x : Tidy s) (h : ℕ) (l : h ≤ s Objects 0) where
         go e f (inr r) = step e f r (λ q. absurd (n (subst (λ (i : ℕ). Holds (finishes s i)) q f)))
 
     -- one step up where it does, and is marked
-    pub climbed-mark : Holds (finishes s (h + 1)) → length m ≡ object_places → (v : ℕ)
-        → ((found ≡ 0) × (v ≡ h + 1)) ⊎ (v ≡ object_places) → Climbed s (set m (h + 1) 1) v (done_creator s h)
+    pub climbed-mark : Holds (finishes s (h + 1)) → length m ≡ object_places → (v : Found)
+        → ((found ≡ Nothing) × (v ≡ One (h + 1))) ⊎ (v ≡ Several) → Climbed s (set m (h + 1) 1) v (done_creator s h)
     climbed-mark f len v w = record {
       known = let d = done_lower some in let k = y.known in omega arith;
       sure = λ e q. sure e q (places (h + 1) e);
       reached = λ e g. go e g (places (h + 1) e) (y.reached e g);
-      alone = λ few e q. alone few e q (places (h + 1) e) w;
-      there = λ one few. there few w;
+      marked = marked w;
     }
       where
         here : get_or (set m (h + 1) 1) (h + 1) 0 ≡ 1
@@ -216,32 +225,25 @@ module _ (s : Session) (x : Tidy s) (h : ℕ) (l : h ≤ s Objects 0) where
         go e g (two n) (inl q) = inl (before e n ∙ q)
         go e g (two n) (inr r) = step e g r (λ q. absurd (n (sym q)))
 
-        alone : v ≤ most_objects → (e : ℕ) → get_or (set m (h + 1) 1) e 0 ≡ 1 → Places (h + 1) e
-            → ((found ≡ 0) × (v ≡ h + 1)) ⊎ (v ≡ object_places) → e ≡ v
-        alone few e q p (inr z) = absurd (omega arith)
-        alone few e q (one p) (inl z) = sym p ∙ sym z.1
-        alone few e q (two n) (inl z) =
-            let k : get_or m e 0 ≡ 1 = sym (before e n) ∙ q in
-            let o = (event-made s x e (y.sure e k).0).0 in
-            absurd (omega (arith, o, z.0, y.alone (omega (arith, z.0)) e k))
+        alone : Marked m Nothing → (e : ℕ) → get_or (set m (h + 1) 1) e 0 ≡ 1 → Places (h + 1) e → e ≡ h + 1
+        alone none e q (one p) = sym p
+        alone none e q (two n) = absurd (none e (sym (before e n) ∙ q))
 
-        there : v ≤ most_objects → ((found ≡ 0) × (v ≡ h + 1)) ⊎ (v ≡ object_places) → get_or (set m (h + 1) 1) v 0 ≡ 1
-        there few (inl z) = rw z.1 here
-        there few (inr z) = absurd (omega arith)
+        marked : ((found ≡ Nothing) × (v ≡ One (h + 1))) ⊎ (v ≡ Several) → Marked (set m (h + 1) 1) v
+        marked (inl z) =
+            let none = subst (λ (k : Found). Marked m k) z.0 y.marked in
+            subst (λ (k : Found). Marked (set m (h + 1) 1) k) (sym z.1) (here, λ e q. alone none e q (places (h + 1) e))
+        marked (inr z) = subst (λ (k : Found). Marked (set m (h + 1) 1) k) (sym z) tt
 
 -- before the climb nothing is marked
-pub climbed_none : (s : Session) (t : ℕ) → OnlyAbove s t → Climbed s (replicate object_places 0) 0 t
+pub climbed_none : (s : Session) (t : ℕ) → OnlyAbove s t → Climbed s (replicate object_places 0) Nothing t
 climbed_none s t o = record {
   known = o.known;
   sure = λ e q. absurd (none e q (dec_lt e object_places));
   reached = λ e f. inr (o.reached e f);
-  alone = λ few e q. absurd (none e q (dec_lt e object_places));
-  there = λ one few. absurd (never one);
+  marked = λ e q. none e q (dec_lt e object_places);
 }
   where
-    never : 1 ≤ 0 → ⊥
-    never l = omega arith
-
     zeros : List ℕ
     zeros = replicate object_places 0
 
@@ -252,7 +254,7 @@ climbed_none s t o = record {
     none e q (yes l) = let z : get_or zeros e 0 ≡ 0 = get_or-replicate object_places e 0 0 l in omega arith
     none e q (no n) = let z : get_or zeros e 0 ≡ 0 = get_or-eq_default zeros 0 {n = e} (omega (arith, long)) in omega arith
 
-module _ (s : Session) (m : List ℕ) (found : ℕ) (y : Climbed s m found 0) where
+module _ (s : Session) (m : List ℕ) (found : Found) (y : Climbed s m found 0) where
   -- after it everything that finishes is
   pub climbed_all : Marks s m
   climbed_all = record { sure = y.sure; all = λ e f. go e (y.reached e f) }
@@ -262,14 +264,17 @@ module _ (s : Session) (m : List ℕ) (found : ℕ) (y : Climbed s m found 0) wh
       go e (inr r) = let z = r.0 in absurd (omega arith)
 
   -- nothing fires where nothing was found
-  pub found_none : Tidy s → found ≡ 0 → fire_finished s ≡ s
-  found_none x z =
-      fires_nothing s (λ e f. let o = (event-made s x e f.0).0 in omega
-      (arith, o, z, y.alone (omega arith) e (climbed_all.all e f)))
+  pub found_none : found ≡ Nothing → fire_finished s ≡ s
+  found_none z =
+      let none = subst (λ (k : Found). Marked m k) z y.marked in
+      fires_nothing s (λ e f. none e (climbed_all.all e f))
 
   -- one event where one was found
-  pub found_one : (found ≡ 0 → ⊥) → found ≤ most_objects → fire_one s found 0 ≡ fire_finished s
-  found_one n few = one_fires s found (y.sure found (y.there (omega arith) few)) (λ e f. y.alone few e (climbed_all.all e f))
+  pub found_one : (e : ℕ) → found ≡ One e → Holds (finishes s e) × (fire_one s e 0 ≡ fire_finished s)
+  found_one e z =
+      let one = subst (λ (k : Found). Marked m k) z y.marked in
+      let f = y.sure e one.0 in
+      (f, one_fires s e f (λ k g. one.1 k (climbed_all.all k g)))
 
 -- of what `finishes` reads, r is s but for the states of task t and of its output event
 pub record OnlyOwn (s r : Session) (t : ℕ) : Type 0 where

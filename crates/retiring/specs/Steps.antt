@@ -1,6 +1,9 @@
 -- The steps climbed on the walk upwards, and what stops it.
-use Rattle.std.specs.Prelude.{ℕ, ◌+◌, ◌-◌, ◌≤◌, ◌≡◌, refl, Bool, true, false, List, ◌⊎◌}
-use Rattle.std.proofs.Common.{sym, subst, inl, inr, arith}
+use Rattle.std.specs.Prelude.{ℕ, zero, suc, ◌+◌, ◌-◌, ◌≤◌, ◌≡◌, refl, Bool, true, false, List, ◌⊎◌, eqb, Some}
+use Rattle.std.proofs.Common.{sym, subst, inl, inr, arith, ap, ◌∙◌}
+use Rattle.std.proofs.Math.Bool.{not}
+use Rattle.std.proofs.Math.Dec.{eqb-suc-zero}
+use mir.Val.{bool_byte}
 use Rattle.session.specs.Table.{Session, change}
 use Rattle.session.specs.declared.Field.TheVariants.{Objects, TaskState, TaskCreator}
 use Rattle.session.specs.Names.{running}
@@ -12,7 +15,7 @@ use Rattle.laws.specs.Climbing.{climbed-moves, climbed_stands}
 use Rattle.laws.specs.Conjuncts.{finishes_by_name}
 use Rattle.retiring.specs.declared.climbing.Walk.{Walk}
 use Rattle.retiring.specs.TidyUnderWay.{Tidy}
-use Rattle.retiring.specs.Climb.{Climbed, OnlyAbove, OnlyOne, Reached, done_creator, creator-live, creator-done}
+use Rattle.retiring.specs.Climb.{Climbed, OnlyAbove, OnlyOne, Reached, done_creator, creator-live, creator-done, handle, some_handle}
 use Rattle.retiring.specs.Climb.{creator-made, busy-above, step}
 use Rattle.retiring.specs.Finish.{fires_nothing}
 
@@ -46,6 +49,15 @@ module _ (s : Session) (x : Tidy s) (h : ℕ) (l : h ≤ s Objects 0) where
       go : Case (s TaskState (c h) ≼ running) → (done_creator s h ≡ c h) × (s TaskState (c h) ≤ running → ⊥)
       go (it_does live) = absurd (n (creator-live s h live))
       go (it_does_not d) = (creator-done s h d, d)
+
+  -- one that the code has is no null either
+  pub creator_told : (k : ℕ) → Some k ≡ handle (done_creator s h)
+      → (k ≡ done_creator s h) × (k ≡ c h) × (1 ≤ k) × (s TaskState (c h) ≤ running → ⊥)
+  creator_told k e =
+      let q : (done_creator s h ≡ k) × (1 ≤ k) = some_handle (done_creator s h) k (sym e) in
+      let some : done_creator s h ≡ 0 → ⊥ = λ z. omega (arith, q.0, q.1, z) in
+      let o = creator-over some in
+      (sym q.0, sym q.0 ∙ o.0, q.1, o.1)
 
   -- a live creator, or none, stops the climb ..
   pub live_stops : done_creator s h ≡ 0 → StopsAbove s h
@@ -114,3 +126,11 @@ module _ (s : Session) (x : Tidy s) (h : ℕ) (l : h ≤ s Objects 0) where
 -- whoever has no creator, as main, has no first step
 pub no_step : (s : Session) (h u : ℕ) → u ≡ s TaskCreator h → u ≡ 0 → ◌≡◌ {A = ℕ} 0 (choose (1 ≼ s TaskCreator h) 1 0)
 no_step s h u e z = sym (choose_no {A = ℕ} (1 ≼ s TaskCreator h) 1 0 (λ m. omega arith))
+
+-- as the code reads it: whether there is a creator, as a number
+pub step_read : (s : Session) (h u r : ℕ) → u ≡ s TaskCreator h → r ≡ bool_byte (not (eqb u 0))
+    → r ≡ choose (1 ≼ s TaskCreator h) 1 0
+step_read s h zero r e q = q ∙ no_step s h 0 e refl
+step_read s h (suc n) r e q =
+    q ∙ ap (λ (b : Bool). bool_byte (not b)) (eqb-suc-zero n)
+    ∙ sym (choose_yes {A = ℕ} (1 ≼ s TaskCreator h) 1 0 (omega (arith, e)))

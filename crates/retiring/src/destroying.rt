@@ -1,7 +1,7 @@
 // Destroying objects.
-ghost use Rattle.std.specs.Prelude.{◌≡◌, ◌+◌, ◌≤◌, length};
+ghost use Rattle.std.specs.Prelude.{◌≡◌, ◌+◌, ◌≤◌};
 ghost use Rattle.session.specs.Names.{most_objects, most_links};
-ghost use Rattle.session.specs.Table.{read, words};
+ghost use Rattle.session.specs.Table.{read};
 ghost use Rattle.session.specs.Lent.{was, Becomes};
 ghost use Rattle.session.specs.declared.Field.TheVariants.{Objects, Links};
 ghost use Rattle.rules.specs.Formula.{Holds};
@@ -22,11 +22,11 @@ ghost use Rattle.retiring.specs.Children.{Childless};
 ghost use Rattle.retiring.specs.RetiringParts.{output_destroyed, OutputLow, fate};
 
 use crate::finishing;
-use session::{Field, names};
+use session::{Field, Memory, names};
 
-// The open links of event e are cut; ready ones still deliver. Internal: callers have shown the length and the links' count.
-fn cut_links(s: &mut [u64], e: u64)
-    requires { (words ≤ length s.old) × (read s.old Links 0 ≤ most_links) × NoMoreLinks (read s.old) }
+// The open links of event e are cut; ready ones still deliver. Internal: callers have shown the links' count.
+fn cut_links(s: &mut Memory, e: u64)
+    requires { (read s.old Links 0 ≤ most_links) × NoMoreLinks (read s.old) }
     ensures { Becomes s.old s.new (links_cut (was s.old) e) }
 {
     effects::set_open_links(s, e, names::CUT);
@@ -37,15 +37,15 @@ fn retired_state(state: u64) -> u64
     ensures { result ≡ retired state }
 {
     if state == names::FIRED {
-        return names::DESTROYED_FIRED;
+        names::DESTROYED_FIRED
+    } else {
+        names::DESTROYED_UNFIRED
     }
-    names::DESTROYED_UNFIRED
 }
 
-// Destroys event e. Internal: callers have shown the length, the handle and the links' count.
-fn destroy_event(s: &mut [u64], e: u64)
-    requires { (words ≤ length s.old) × (e ≤ most_objects) × (read s.old Links 0 ≤ most_links)
-        × NoMoreLinks (read s.old) }
+// Destroys event e. Internal: callers have shown the handle and the links' count.
+fn destroy_event(s: &mut Memory, e: u64)
+    requires { (e ≤ most_objects) × (read s.old Links 0 ≤ most_links) × NoMoreLinks (read s.old) }
     ensures { Becomes s.old s.new (destroy_event (was s.old) e) }
 {
     let state = session::get(s, Field::EventState, e as usize);
@@ -53,9 +53,9 @@ fn destroy_event(s: &mut [u64], e: u64)
     cut_links(s, e);
 }
 
-// Destroys the output event of task t, if it has one. Internal: callers have shown the length, the handles and a tidy session.
-fn destroy_output(s: &mut [u64], t: u64)
-    requires { (words ≤ length s.old) × (t ≤ most_objects) × Tidy (read s.old) × OutputLow (read s.old) t }
+// Destroys the output event of task t, if it has one. Internal: callers have shown the handles and a tidy session.
+fn destroy_output(s: &mut Memory, t: u64)
+    requires { (t ≤ most_objects) × Tidy (read s.old) × OutputLow (read s.old) t }
     ensures { Becomes s.old s.new (output_destroyed (was s.old) t) }
 {
     if session::get(s, Field::TaskOutput, t as usize) == 1 {
@@ -64,9 +64,9 @@ fn destroy_output(s: &mut [u64], t: u64)
 }
 
 // Destroys task t, which never ran and made no task, and fires the finish events that waited for it: the steps climbed, returned with
-// the session. Internal: callers have shown the length, the handles, a tidy session and the rule of outputs.
-fn destroy_task(s: &mut [u64], t: u64) -> u64
-    requires { (words ≤ length s.old) × (t ≤ most_objects) × Tidy (read s.old) × OutputLow (read s.old) t
+// the session. Internal: callers have shown the handles, a tidy session and the rule of outputs.
+fn destroy_task(s: &mut Memory, t: u64) -> u64
+    requires { (t ≤ most_objects) × Tidy (read s.old) × OutputLow (read s.old) t
         × Holds (made (read s.old) t) × Holds (outputs (read s.old)) × Childless (read s.old) t }
     ensures { Made s.old s.new (destroy_task (was s.old) t) (climbed (destroy_task (was s.old) t) t) result }
 {
@@ -76,19 +76,20 @@ fn destroy_task(s: &mut [u64], t: u64) -> u64
 }
 
 // The state of block b once it is destroyed: doomed while somebody holds it. Internal, as `is_held` is.
-fn fate_of(s: &[u64], b: u64) -> u64
-    requires { (words ≤ length s.now) × (read s.now Objects 0 ≤ most_objects) × (b ≤ most_objects) × Active (read s.now) }
+fn fate_of(s: &Memory, b: u64) -> u64
+    requires { (read s.now Objects 0 ≤ most_objects) × (b ≤ most_objects) × Active (read s.now) }
     ensures { result ≡ fate (was s.now) b }
 {
     if reading::is_held(s, b) {
-        return names::DOOMED;
+        names::DOOMED
+    } else {
+        names::BLOCK_DESTROYED
     }
-    names::BLOCK_DESTROYED
 }
 
 // Destroys block b for task t, which lets go of it first. Internal, as `let_go_block` is.
-fn destroy_block(s: &mut [u64], t: u64, b: u64)
-    requires { (words ≤ length s.old) × (read s.old Objects 0 ≤ most_objects) × (t ≤ most_objects) × (1 ≤ b)
+fn destroy_block(s: &mut Memory, t: u64, b: u64)
+    requires { (read s.old Objects 0 ≤ most_objects) × (t ≤ most_objects) × (1 ≤ b)
         × (b ≤ most_objects) × Doomed (read s.old) × Active (read s.old) }
     ensures { Becomes s.old s.new (destroy_block (was s.old) t b) }
 {
@@ -98,28 +99,17 @@ fn destroy_block(s: &mut [u64], t: u64, b: u64)
 }
 
 // 8 destroy (caller, object), by its kind: the steps climbed where it is a task, returned with the session, else 0. Internal: callers
-// have shown the length, a sound session and the checks.
-pub fn destroy(s: &mut [u64], caller: u64, h: u64) -> u64
-    requires { (words ≤ length s.old) × Holds (sound (read s.old)) × met (destroy_checks (read s.old) caller h) }
+// have shown a sound session and the checks.
+pub fn destroy(s: &mut Memory, caller: u64, h: u64) -> u64
+    requires { Holds (sound (read s.old)) × met (destroy_checks (read s.old) caller h) }
     ensures { Made s.old s.new (destroy (was s.old) caller h) (destroy_climbs (was s.old) caller h) result }
 {
-    let kind = session::get(s, Field::Kind, h as usize);
-    if kind == names::TEMPLATE {
-        session::set(
-            s,
-            Field::TemplateState,
-            h as usize,
-            names::TEMPLATE_DESTROYED,
-        );
-        return 0;
+    let at = h as usize;
+    match session::get(s, Field::Kind, at) {
+        names::TEMPLATE => session::set(s, Field::TemplateState, at, names::TEMPLATE_DESTROYED),
+        names::TASK => return destroy_task(s, h),
+        names::EVENT => destroy_event(s, h),
+        _ => destroy_block(s, caller, h),
     }
-    if kind == names::TASK {
-        return destroy_task(s, h);
-    }
-    if kind == names::EVENT {
-        destroy_event(s, h);
-        return 0;
-    }
-    destroy_block(s, caller, h);
     0
 }

@@ -1,12 +1,22 @@
 -- What a call answers: a reply's refusal and what it made, as one of the two answers that a caller can tell apart.
-use Rattle.std.specs.Prelude.{ℕ, ◌≡◌}
+use Rattle.std.specs.Prelude.{ℕ, ◌≡◌, Result, Result.Ok, Result.Err}
 use Rattle.std.proofs.Math.Path.{ap, sym}
 use Rattle.std.proofs.Common.{◌∙◌}
-use Rattle.rules.specs.declared.Answer.{Answer}
-use Rattle.rules.specs.declared.Answer.TheVariants.{Accepted, Refused}
+use Rattle.rules.specs.declared.refusals.Refusal.{Refusal}
+use Rattle.rules.specs.Refusals.{number}
 use Rattle.rules.specs.Formula.{choose, Formula.◌≐◌}
 use Rattle.rules.specs.FormulaLaws.{Case, decide, choose_yes, choose_no, Case.it_does, Case.it_does_not}
 use Rattle.rules.specs.Step.{Reply}
+
+-- What a caller can tell apart: what an accepted call made or the steps climbed, or the number of the check that failed.
+pub data Answer : Type 0 where
+  Accepted : ℕ → Answer
+  Refused : ℕ → Answer
+
+-- the answer that a function gives
+abbrev pub answer_told : Result ℕ Refusal → Answer
+answer_told (Ok made) = Accepted made
+answer_told (Err r) = Refused (number r)
 
 -- An answer in document 01's numbers: the refusal, 0 if accepted ..
 unfoldable pub refused_of : Answer → ℕ

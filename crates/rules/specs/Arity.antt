@@ -1,10 +1,10 @@
 -- How many fields each operation has, what it is called, and the editions of sheets that know it, by its code.
-use Rattle.std.specs.Prelude.{ℕ, zero, suc, ◌+◌, ◌-◌, ◌≤◌, ◌≡◌, refl, List, [], ◌∷◌, ◌++◌, get_or, length, take, drop}
-use Rattle.std.proofs.Common.{arith, ext_get_or}
+use Rattle.std.specs.Prelude.{ℕ, zero, suc, ◌≤◌, ◌<◌, ◌≡◌, ◌⊎◌, refl, List, [], ◌∷◌, get_or, length}
+use Rattle.std.specs.Prelude.{Option, Option.Some, Option.None}
+use Rattle.std.proofs.Common.{⊎_elim, arith}
+use Rattle.std.proofs.lemmas.List.{get_or_past}
 use Rattle.rules.specs.declared.Operation.{Operation}
-use Rattle.rules.specs.declared.Arity.{Arity}
-use Rattle.rules.specs.declared.Arity.TheVariants.{Fields, Unknown}
-use Rattle.rules.specs.Formula.{Formula, Holds, test, choose, Formula.◌≐◌, Formula.◌≼◌, Formula.◌and◌, Formula.◌then◌}
+use Rattle.rules.specs.Formula.{Formula, Holds, test, choose, Formula.◌≼◌, Formula.◌and◌, Formula.◌then◌}
 use Rattle.rules.specs.Formula.{Formula.each}
 use Rattle.rules.specs.FormulaLaws.{passed, choose_no}
 use Rattle.rules.specs.Step.{Rule, rules, last_code, last_edition, last_of, rule_of, unknown}
@@ -48,6 +48,11 @@ unfoldable pub name_of : ℕ → List ℕ
 unfolding rules
 name_of code = get_or (column (λ r. r.name) rules) code []
 
+-- no code, no name
+pub name_none : (code : ℕ) → (code ≡ 0) ⊎ (last_code < code) → name_of code ≡ []
+unfolding name_of rules
+name_none code = ⊎_elim (λ e. rw e refl) (λ h. get_or_past (column (λ r. r.name) rules) code [] (omega arith))
+
 -- every operation has from one to five fields
 pub fields_some : (code : ℕ) → Holds (is_code code) → 1 ≤ field_count code
 unfolding rules test
@@ -63,47 +68,6 @@ unfolding rules
 fields-counted o = column-at (λ r. r.arity) rules o.code unknown
 
 -- "6. The operation code is unknown" to an edition, or has so many fields
-unfoldable pub arity_of : ℕ → ℕ → Arity
+unfoldable pub arity_of : ℕ → ℕ → Option ℕ
 unfolding rules
-arity_of edition code = choose (knows edition code) (Fields (field_count code)) Unknown
-
--- The names one behind the other, and where each ends in them, by the codes from 0 on.
-abbrev joined : List (List ℕ) → List ℕ
-joined [] = []
-joined (n ∷ ns) = n ++ joined ns
-
-abbrev ends_from : ℕ → List (List ℕ) → List ℕ
-ends_from at [] = []
-ends_from at (n ∷ ns) = (at + length n) ∷ ends_from (at + length n) ns
-
-unfoldable pub all_names : List ℕ
-unfolding rules
-all_names = joined (column (λ r. r.name) rules)
-
-unfoldable pub name_ends : List ℕ
-unfolding rules
-name_ends = ends_from 0 (column (λ r. r.name) rules)
-
-abbrev pub name_end : ℕ → ℕ
-name_end code = get_or name_ends code 0
-
--- what lies from the end before a code's to its own
-abbrev pub name_within : ℕ → List ℕ
-name_within code = take (name_end code - name_end (code - 1)) (drop (name_end (code - 1)) all_names)
-
--- A code's name lies there, for every code.
-pub name_placed : (code : ℕ) → Holds (is_code code) → Holds (name_end (code - 1) ≼ name_end code and name_end code ≼ length all_names)
-unfolding all_names name_ends rules test
-name_placed code h =
-    passed (each (suc last_code) (λ c. name_end (c - 1) ≼ name_end c and name_end c ≼ length all_names)) refl code (omega arith)
-
-pub name_found : (code : ℕ) → Holds (is_code code) → name_within code ≡ name_of code
-unfolding all_names name_ends name_of rules test
-name_found code h =
-    let same =
-    passed
-    (each (suc last_code)
-    (λ c. length (name_within c) ≐ length (name_of c)
-    and each (length (name_within c)) (λ i. get_or (name_within c) i 0 ≐ get_or (name_of c) i 0)))
-    refl code (omega arith) in
-    ext_get_or 0 (name_within code) (name_of code) same.0 same.1
+arity_of edition code = choose (knows edition code) (Some (field_count code)) None

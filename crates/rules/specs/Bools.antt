@@ -61,3 +61,6 @@ pub or_never : (b : Bool) → (b || test never) ≡ b
 unfolding test
 or_never true = refl
 or_never false = refl
+
+-- all of them, for `grind`
+pub ruleset tests = (test_eq, test_le, test-both, test_either, test_implies, test-not, or_never)

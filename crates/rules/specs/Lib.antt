@@ -15,6 +15,8 @@ pub mod Book
 pub mod OperationNames
 pub mod Step
 pub mod Arity
+pub mod JoinedNames
+pub mod Refusals
 pub mod Answer
 pub mod Edges
 pub mod Demand

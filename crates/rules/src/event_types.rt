@@ -7,60 +7,71 @@ ghost use Rattle.rules.specs.EventTypes.{has_type_slot, is_link_count};
 
 use session::names;
 
+#[tactic(auto, using(crate::specs::Bools::tests), unfolding(crate::specs::EventTypes::of_type))]
 pub fn is_event_type(ty: u64) -> bool
     ensures { result ≡ test (is_event_type ty) }
 {
-    (ty == names::ONCE)
-        | ((ty == names::IDEMPOTENT)
-            | ((ty == names::STICKY)
-                | ((ty == names::LATCH) | ((ty == names::OUTPUT) | (ty == names::COUNTED)))))
+    matches!(
+        ty,
+        names::ONCE
+            | names::IDEMPOTENT
+            | names::STICKY
+            | names::LATCH
+            | names::OUTPUT
+            | names::COUNTED
+    )
 }
 
 // Whether operation 3 makes it.
+#[tactic(auto, using(crate::specs::Bools::tests), unfolding(crate::specs::EventTypes::of_type))]
 pub fn is_offered_type(ty: u64) -> bool
     ensures { result ≡ test (is_offered_type ty) }
 {
-    (ty == names::ONCE)
-        | ((ty == names::IDEMPOTENT) | ((ty == names::STICKY) | (ty == names::LATCH)))
+    matches!(
+        ty,
+        names::ONCE | names::IDEMPOTENT | names::STICKY | names::LATCH
+    )
 }
 
 // Whether a call may name it.
+#[tactic(auto, using(crate::specs::Bools::tests), unfolding(crate::specs::EventTypes::of_type))]
 pub fn is_user_type(ty: u64) -> bool
     ensures { result ≡ test (is_user_type ty) }
 {
-    (ty == names::ONCE)
-        | ((ty == names::IDEMPOTENT)
-            | ((ty == names::STICKY) | ((ty == names::LATCH) | (ty == names::COUNTED))))
+    matches!(
+        ty,
+        names::ONCE | names::IDEMPOTENT | names::STICKY | names::LATCH | names::COUNTED
+    )
 }
 
 // Whether it counts as gone once it has fired.
+#[tactic(auto, using(crate::specs::Bools::tests), unfolding(crate::specs::EventTypes::of_type))]
 pub fn is_gone_when_fired(ty: u64) -> bool
     ensures { result ≡ test (gone_when_fired ty) }
 {
-    (ty == names::ONCE) | ((ty == names::LATCH) | (ty == names::OUTPUT))
+    matches!(ty, names::ONCE | names::LATCH | names::OUTPUT)
 }
 
 // Whether it refuses a further satisfaction once it has fired.
+#[tactic(auto, using(crate::specs::Bools::tests), unfolding(crate::specs::EventTypes::of_type))]
 pub fn refuses_further(ty: u64) -> bool
     ensures { result ≡ test (refuses_further ty) }
 {
-    (ty == names::STICKY) | (ty == names::COUNTED)
+    matches!(ty, names::STICKY | names::COUNTED)
 }
 
 // Whether a counted event may be made for so many links.
+#[tactic(auto, using(crate::specs::Bools::tests))]
 pub fn is_link_count(n: u64) -> bool
     ensures { result ≡ test (is_link_count n) }
 {
-    (1 <= n) & (n <= names::MOST_COUNT)
+    (1..=names::MOST_COUNT).contains(&n)
 }
 
 // Whether it has slot j.
+#[tactic(auto, using(crate::specs::Bools::tests), unfolding(crate::specs::EventTypes::of_type))]
 pub fn has_type_slot(ty: u64, j: u64) -> bool
     ensures { result ≡ test (has_type_slot ty j) }
 {
-    let first = (ty == names::ONCE)
-        | ((ty == names::IDEMPOTENT)
-            | ((ty == names::STICKY) | ((ty == names::LATCH) | (ty == names::COUNTED))));
-    let second = ty == names::LATCH;
-    (j == 0) & first | (j == 1) & second
+    (j == 0) & is_user_type(ty) | (j == 1) & (ty == names::LATCH)
 }

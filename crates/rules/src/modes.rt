@@ -6,6 +6,7 @@ ghost use Rattle.rules.specs.Modes.{conflict, stopped_by};
 use session::names;
 
 // Whether holds of different tasks in modes a and b conflict: neither is RO, and they differ or both are EW.
+#[tactic(auto, using(crate::specs::Bools::tests))]
 pub fn conflicts(a: u64, b: u64) -> bool
     ensures { result ≡ test (conflict a b) }
 {

@@ -1,53 +1,49 @@
-// The numbers of refusals: document 01, "Why an operation is turned down". The first check that fails gives its number.
+// Why an operation is turned down: document 01's refusals. The first check that fails gives its number.
+ghost use Rattle.std.specs.Prelude.{◌≡◌};
+ghost use Rattle.rules.specs.Refusals.{number};
 
-// Memory is too short, or under 32 bytes are free for a line or a record.
-pub const NO_ROOM: u64 = 1;
+// A refusal; its number is its place here, from 1 on.
+#[derive(Clone, Copy, Debug, PartialEq, Eq)]
+pub enum Refusal {
+    // Memory is too short, or under 32 bytes are free for a line or a record.
+    NoRoom = 1,
+    NotSound,
+    // A number is cut short by the sheet's end; is not in its shortest form or too large; the sheet's first one is no edition.
+    CutShort,
+    BadNumber,
+    NotASheet,
+    UnknownCode,
+    // A field is outside the range in its brackets.
+    OutOfRange,
+    CallerNotRunning,
+    NeverMade,
+    WrongKind,
+    Gone,
+    // No such slot, or a count that is not admitted.
+    NoSuchSlot,
+    AlreadyClaimed,
+    StickyFired,
+    NotHeld,
+    // The task or link is not in the state needed.
+    WrongState,
+    // A pre-slot's block is doomed or destroyed.
+    BlockGone,
+    // A hold of another task conflicts.
+    ConflictingHold,
+    LatchRange,
+    TooManyObjects,
+    TooManyLinks,
+    // Of a class report: a sheet's length, and a learner lower than the one before.
+    TooLong,
+    LowerLearner,
+    // A counted event already has its count of links.
+    CountReached,
+}
 
-pub const NOT_SOUND: u64 = 2;
+impl From<Refusal> for u64 {
+    ghost from_gives = { λ refusal n. n ≡ number refusal };
 
-// A number is cut short by the sheet's end; is not in its shortest form or too large; the sheet's first one is no edition.
-pub const CUT_SHORT: u64 = 3;
-
-pub const BAD_NUMBER: u64 = 4;
-
-pub const NOT_A_SHEET: u64 = 5;
-
-pub const UNKNOWN_CODE: u64 = 6;
-
-// A field is outside the range in its brackets.
-pub const OUT_OF_RANGE: u64 = 7;
-
-pub const CALLER_NOT_RUNNING: u64 = 8;
-
-pub const NEVER_MADE: u64 = 9;
-
-pub const WRONG_KIND: u64 = 10;
-
-pub const GONE: u64 = 11;
-
-// No such slot, or a count that is not admitted.
-pub const NO_SUCH_SLOT: u64 = 12;
-
-pub const ALREADY_CLAIMED: u64 = 13;
-
-pub const STICKY_FIRED: u64 = 14;
-
-pub const NOT_HELD: u64 = 15;
-
-// The task or link is not in the state needed.
-pub const WRONG_STATE: u64 = 16;
-
-// A pre-slot's block is doomed or destroyed.
-pub const BLOCK_GONE: u64 = 17;
-
-// A hold of another task conflicts.
-pub const CONFLICTING_HOLD: u64 = 18;
-
-pub const LATCH_RANGE: u64 = 19;
-
-pub const TOO_MANY_OBJECTS: u64 = 20;
-
-pub const TOO_MANY_LINKS: u64 = 21;
-
-// 22 and 23 are a class report's. A counted event already has its count of links.
-pub const COUNT_REACHED: u64 = 24;
+    fn from(refusal: Refusal) -> u64 {
+        refusal as u64
+    }
+}

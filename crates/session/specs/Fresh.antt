@@ -1,6 +1,7 @@
 -- The session that every sheet starts from.
-use Rattle.std.specs.Prelude.{ℕ, ◌≡◌, List, length, leb}
+use Rattle.std.specs.Prelude.{ℕ, ◌≡◌, List, length, leb, Result, Result.Ok, Result.Err}
 use Rattle.session.specs.Names.{block, task, fresh, resolved, mode_rw, satisfied}
+use Rattle.session.specs.declared.TooShort.{TooShort}
 use Rattle.session.specs.Table.{Session, Wrote, put, pick, words, at}
 use Rattle.session.specs.declared.Field.TheVariants.{Objects, Kind, TaskState, TaskSlots, BlockState, SlotMode, SlotMark}
 use Rattle.session.specs.declared.Field.TheVariants.{SlotPayload}
@@ -25,6 +26,11 @@ fresh_session =
 -- "1. Session memory is shorter than docs/ says": the refusal, 0 if done.
 abbrev pub refused_length : List ℕ → ℕ
 refused_length ws = pick (leb words (length ws)) 0 1
+
+-- an answer in that number
+abbrev pub short_told : {A : Type 0} → Result A TooShort → ℕ
+short_told (Ok a) = 0
+short_told (Err e) = 1
 
 -- What a call on lent memory leaves where it accepts no memory shorter than the layout: the session s and, past the layout,
 -- what stood there; shorter memory as it was.

@@ -1,12 +1,17 @@
 -- Clearing field by field, and that a tidy session cleared where it is used is the empty one.
 use Rattle.std.specs.Prelude.{ℕ, zero, suc, ◌+◌, ◌≤◌, ◌<◌, ◌≡◌, refl, Bool, true, false, List, [], ◌∷◌, T, ltb, eqb, length, get_or, set, take}
 use Rattle.std.proofs.Math.Path.{fun_ext}
+use native.Mathlib.Numerals.{unary_clauses}
+use Rattle.std.proofs.Math.Seq.{paste}
+use Rattle.std.proofs.Math.ListN.{replicate}
+use Rattle.std.proofs.lemmas.List.{append-nil, take-append-drop, get_or-replicate, length-replicate}
+use Rattle.std.proofs.lemmas.List.Edits.{paste_more}
 use Rattle.std.proofs.Common.{sym, ap, arith, eqb→eq, ltb-true, ltb-false, lt-ltb, le-ltb}
 use Rattle.std.proofs.lemmas.Bool.{eqb-false}
 use Rattle.session.specs.Names.{most_objects, most_links, object_places, link_places}
 use Rattle.session.specs.Table.{Session, Wrote, Class, Class.always, Class.per_handle, Class.per_slot, Class.per_link, read}
 use Rattle.session.specs.Table.{sweep, pick, both, class, places_of, code, same, fields, words_of, base, size, words}
-use Rattle.session.specs.TableLaws.{bounded, inside, both_l, both_r, same_eq, sweep-more, wrote_none, wrote_then}
+use Rattle.session.specs.TableLaws.{bounded, inside, both_l, both_r, same_eq, sweep_zero, sweep-more, wrote_none, wrote_then}
 use Rattle.session.specs.TableLaws.{wrote_word, wrote_more}
 use Rattle.session.specs.Fresh.{empty_session}
 use Rattle.session.specs.Renew.{Tidy, Zeroed, used, places_in, cleared}
@@ -17,6 +22,27 @@ use Rattle.session.specs.declared.Field.TheVariants.{Objects, Links, Kind, LinkS
 pub wrote_swept : (a b : List ℕ) (f : Field) (i : ℕ) → i < size f → words ≤ length b → Wrote a b (sweep (read a) f i (λ _. 0))
     → Wrote a (set b (base f + i) 0) (sweep (read a) f (i + 1) (λ _. 0))
 wrote_swept a b f i h l w = rw (sweep-more (read a) f i (λ _. 0)) at (wrote_more f i 0 w (wrote_word b f i 0 h l))
+
+-- n words from a word on made zero, as a part of the memory that is filled
+module _ (ws : List ℕ) (start n : ℕ) (long : words ≤ length ws) (fits : start + n ≤ words) where
+  filled_none : paste ws start (replicate n 0) 0 ≡ ws
+  filled_none = rw (append-nil (take start ws)) (simp unary_clauses (take-append-drop start ws))
+
+  filled-more : (k : ℕ) → k < n
+      → set (paste ws start (replicate n 0) k) (start + k) 0 ≡ paste ws start (replicate n 0) (k + 1)
+  filled-more k h =
+      rw (get_or-replicate {A = ℕ} n k 0 0 h) at
+      (paste_more ws start (replicate n 0) k 0 (omega arith) (omega (arith, length-replicate {A = ℕ} n 0)))
+
+  pub zeroed : Zeroed ws (paste ws start (replicate n 0) n) start n
+  zeroed f begins few = go n (omega arith)
+    where
+      go : (k : ℕ) → k ≤ n → Wrote ws (paste ws start (replicate n 0) k) (sweep (read ws) f k (λ _. 0))
+      go zero h = rw (filled_none, sweep_zero (read ws) f (λ _. 0)) (wrote_none ws)
+      go (suc k) h =
+          let w = go k (omega arith) in
+          let e : k + 1 ≡ suc k = omega arith in
+          rw (← begins, filled-more k (omega arith), e) at (wrote_swept ws _ f k (omega arith) (omega (arith, w.same_length)) w)
 
 -- more handles and links, more places
 pub more_places : {h l m n : ℕ} → h ≤ m → l ≤ n → (c : Class) → places_of h l c ≤ places_of m n c

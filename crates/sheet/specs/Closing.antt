@@ -1,5 +1,8 @@
 -- The last line, and its counts.
-use Rattle.std.specs.Prelude.{ℕ, zero, suc, ◌+◌, ◌-◌, ◌≤◌, ◌<◌, ◌^◌, List, ◌≡◌, length}
+use Rattle.std.specs.Prelude.{ℕ, zero, suc, ◌+◌, ◌-◌, ◌≤◌, ◌<◌, ◌^◌, List, ◌≡◌, refl, length, min, Bool, true, false}
+use Rattle.std.specs.Int.{from_bool}
+use Rattle.session.specs.Table.{pick}
+use Rattle.std.proofs.Math.Nat.{min-eq_left, min-eq_right}
 use Rattle.std.proofs.Common.{ap, ◌∙◌, ⊎_elim, arith}
 use Rattle.std.proofs.Math.Path.{sym}
 use Rattle.number.specs.Number.{splice}
@@ -9,12 +12,12 @@ use Rattle.session.specs.Names.{most_objects, most_links, object_places, link_pl
 use Rattle.session.specs.Table.{Session, read}
 use Rattle.session.specs.declared.Field.TheVariants.{Objects, Links, Kind, LinkState}
 use Rattle.session.specs.TableLaws.{read_past}
-use Rattle.rules.specs.Formula.{Formula, Holds, choose, count}
-use Rattle.rules.specs.FormulaLaws.{choose_yes, choose_no}
+use Rattle.rules.specs.Formula.{Formula, Holds, choose, count, Formula.◌≼◌}
+use Rattle.rules.specs.FormulaLaws.{choose_yes, choose_no, choose_case}
 use Rattle.rules.specs.Reading.{is_live, is_undelivered}
 use Rattle.rules.specs.LastLine.{live_tasks, undelivered_links, dropped_count}
 use Rattle.laws.specs.Counting.{count_no}
-use Rattle.sheet.specs.declared.Closed.{Closed}
+use Rattle.sheet.specs.Told.{Closed}
 use Rattle.sheet.specs.Run.{Lines, line_room, last_line}
 use Rattle.sheet.specs.Going.{lines_of, lent}
 
@@ -78,6 +81,19 @@ count_past (suc d) m f h =
     let e : suc d + m ≡ suc (d + m) = omega arith in
     ap (λ (n : ℕ). count n f) e ∙ count_no (d + m) f (h (d + m) (omega arith)) ∙ count_past d m f h
 
+-- a truth value as a number
+pub byte_picked : (b : Bool) → from_bool b ≡ pick {A = ℕ} b 1 0
+byte_picked true = refl
+byte_picked false = refl
+
+pub byte_few : (b : Bool) → from_bool b ≤ 1
+byte_few true = omega arith
+byte_few false = omega arith
+
+-- the least of two numbers is the first where it is no more than the second
+pub least : (a b : ℕ) → min a b ≡ choose (a ≼ b) a b
+least a b = choose_case (λ n. min a b ≡ n) (a ≼ b) a b (λ h. min-eq_left h) (λ f. min-eq_right (omega arith))
+
 pub live_past : (ws : List ℕ) → most_objects < read ws Objects 0 → count (most_objects + 1) (is_live (read ws)) ≡ live_tasks (read ws)
 unfolding live_tasks
 live_past ws h =
@@ -112,3 +128,17 @@ pub undelivered-here : (ws : List ℕ) (n : ℕ) → n ≡ read ws Links 0
     → count (n + 1) (is_undelivered (read ws)) ≡ undelivered_links (read ws)
 unfolding undelivered_links
 undelivered-here ws n e = rw e
+
+-- A count in memory past the most is read as the most.
+pub live_within : (ws : List ℕ) → count (min (read ws Objects 0) most_objects + 1) (is_live (read ws)) ≡ live_tasks (read ws)
+live_within ws =
+    rw (least (read ws Objects 0) most_objects)
+    (choose_case (λ n. count (n + 1) (is_live (read ws)) ≡ live_tasks (read ws)) (read ws Objects 0 ≼ most_objects) _ _
+    (λ _. live_here ws _ refl) (λ f. live_past ws (omega arith)))
+
+pub undelivered_within : (ws : List ℕ)
+    → count (min (read ws Links 0) most_links + 1) (is_undelivered (read ws)) ≡ undelivered_links (read ws)
+undelivered_within ws =
+    rw (least (read ws Links 0) most_links)
+    (choose_case (λ n. count (n + 1) (is_undelivered (read ws)) ≡ undelivered_links (read ws)) (read ws Links 0 ≼ most_links) _ _
+    (λ _. undelivered-here ws _ refl) (λ f. undelivered_past ws (omega arith)))

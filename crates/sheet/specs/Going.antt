@@ -1,5 +1,7 @@
 -- How the code stands after a record and after a run.
-use Rattle.std.specs.Prelude.{ℕ, suc, ◌+◌, ◌-◌, ◌≤◌, ◌<◌, List, ◌≡◌, refl, Bool, true, length, drop}
+use Rattle.std.specs.Prelude.{ℕ, suc, ◌+◌, ◌-◌, ◌≤◌, ◌<◌, List, ◌≡◌, refl, Bool, true, length, drop, Result, Result.Ok, Result.Err}
+use Rattle.rules.specs.declared.refusals.Refusal.{Refusal}
+use Rattle.rules.specs.Refusals.{number}
 use Rattle.std.proofs.Math.Path.{ap}
 use Rattle.std.proofs.Common.{sym, ◌∙◌, arith}
 use Rattle.session.specs.Table.{Session, Wrote, read, words}
@@ -10,9 +12,7 @@ use Rattle.rules.specs.Step.{step}
 use Rattle.record.specs.RecordReading.{record_at}
 use Rattle.record.specs.RecordRoundTrip.{record_forward}
 use Rattle.laws.specs.StepKeeps.{step_keeps}
-use Rattle.sheet.specs.declared.Ended.{Ended}
-use Rattle.sheet.specs.declared.Went.{Went}
-use Rattle.sheet.specs.declared.Went.TheVariants.{On, Stopped}
+use Rattle.sheet.specs.Told.{Ended}
 use Rattle.sheet.specs.Run.{Lines, has_room, with_line, Run, ended, ended_by, run_from}
 use Rattle.sheet.specs.RunLaws.{run_end, run-full, run-unsound, run-refused, run_on, steps_enough}
 
@@ -22,6 +22,17 @@ lines_of bytes used = record { bytes = bytes; used = used }
 -- "1. Session memory is shorter than docs/ says, or the line or record memory has under 32 bytes free."
 abbrev pub lent : List ℕ → Lines → Formula
 lent memory l = words ≼ length memory and has_room l
+
+-- What a record leads to: the place of the next one and the length of the lines, or the length of the lines and the refusal that
+-- ends the sheet.
+pub data Went : Type 0 where
+  On : (next used : ℕ) → Went
+  Stopped : (used n : ℕ) → Went
+
+-- what the code answers of it, and the length that it leaves
+abbrev pub went : ℕ → Result ℕ Refusal → Went
+went used (Ok next) = On next used
+went used (Err refusal) = Stopped used (number refusal)
 
 -- What follows the record at a place with this number, in so many steps more.
 unfoldable pub following : List ℕ → ℕ → ℕ → ℕ → Session → List ℕ → Went → Run

@@ -1,6 +1,7 @@
 pub mod Run
 pub mod RunLaws
 pub mod Replies
+pub mod Told
 pub mod Going
 pub mod WholeSheet
 pub mod Closing
@@ -11,6 +12,7 @@ pub mod PrintLaws
 pub mod SheetParts
 pub mod PartOf
 pub mod PartLaws
+pub mod First
 pub mod Printing
 pub mod Output
 pub mod SheetDemand

@@ -15,7 +15,7 @@ use Rattle.laws.specs.Counting.{count_most}
 use Rattle.laws.specs.Rows.Name.{counts, dropped}
 use Rattle.laws.specs.ByName.{kept-sound, sound_by_name}
 use Rattle.laws.specs.Runs.{always_kept}
-use Rattle.sheet.specs.declared.Ended.{Ended}
+use Rattle.sheet.specs.Told.{Ended}
 use Rattle.sheet.specs.Run.{Lines, has_room, Run, run_sheet, last_line}
 use Rattle.sheet.specs.Going.{lines_of, lent, Ends}
 use Rattle.sheet.specs.WholeSheet.{Ran}

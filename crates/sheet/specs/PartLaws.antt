@@ -1,5 +1,5 @@
 -- Laws of a part: its lines, and what is printed from where the next part goes on, are what is printed from where it began.
-use Rattle.std.specs.Prelude.{ℕ, ◌+◌, ◌-◌, ◌≤◌, ◌<◌, ◌^◌, ◌≡◌}
+use Rattle.std.specs.Prelude.{ℕ, ◌+◌, ◌-◌, ◌≤◌, ◌<◌, ◌^◌, ◌≡◌, Result.Ok, Result.Err}
 use mathlib.Core.List.{List, [], ◌++◌, append_assoc, append-nil}
 use Rattle.std.proofs.Math.Path.{refl, ap, sym}
 use Rattle.std.proofs.Common.{◌∙◌}
@@ -11,11 +11,11 @@ use Rattle.session.specs.TableLaws.{wrote_none}
 use Rattle.rules.specs.Formula.{Holds, Formula.◌≐◌, Formula.◌≼◌}
 use Rattle.rules.specs.FormulaLaws.{Case, decide, passes, fails, choose_yes, choose_no, Case.it_does, Case.it_does_not}
 use Rattle.rules.specs.Sound.{kept}
-use Rattle.sheet.specs.declared.Closed.{Closed}
-use Rattle.sheet.specs.declared.Ended.{Ended}
+use Rattle.rules.specs.declared.refusals.Refusal.TheVariants.{NoRoom}
 use Rattle.sheet.specs.declared.Next.{Next}
 use Rattle.sheet.specs.declared.Next.TheVariants.{At, LastLine, Nothing}
 use Rattle.sheet.specs.declared.Part.{Part}
+use Rattle.sheet.specs.Told.{Ended, Closed}
 use Rattle.sheet.specs.Run.{Lines, line_room, has_room, Run, ended, run_at, last_line}
 use Rattle.sheet.specs.Going.{lines_of, lent, Ends}
 use Rattle.sheet.specs.Closing.{with_last, Closes, closed-room, closed-not}
@@ -183,11 +183,11 @@ module _ (memory lines lines' : List ℕ) (used : ℕ) (c : Closed) (long : word
   l = lines_of lines used
 
   pub last_waits : (c.refused ≡ 0 → ⊥)
-      → TellsLast memory lines' (record { refused = 0; used = used; next = LastLine }) (last_part (read memory) l)
+      → TellsLast memory lines' (record { used = used; next = LastLine }) (last_part (read memory) l)
   last_waits f =
       rw (last_full (read memory) l none)
       (record {
-        tells = record { refused = refl; bytes = ap (λ (y : Lines). y.bytes) same; used = refl; next = refl };
+        tells = record { bytes = ap (λ (y : Lines). y.bytes) same; used = refl; next = refl };
         short = λ e. absurd (never e);
       })
     where
@@ -201,17 +201,16 @@ module _ (memory lines lines' : List ℕ) (used : ℕ) (c : Closed) (long : word
       never e = let z : ◌≡◌ {A = ℕ} 0 1 = cc in omega arith
 
   pub last_told : c.refused ≡ 0
-      → TellsLast memory lines' (record { refused = 0; used = c.used; next = Nothing }) (last_part (read memory) l)
+      → TellsLast memory lines' (record { used = c.used; next = Nothing }) (last_part (read memory) l)
   last_told z = go (decide (has_room l))
     where
       go : Case (has_room l)
-          → TellsLast memory lines' (record { refused = 0; used = c.used; next = Nothing }) (last_part (read memory) l)
+          → TellsLast memory lines' (record { used = c.used; next = Nothing }) (last_part (read memory) l)
       go (it_does room) =
           let same = x.written ∙ closed-room memory l (long, room) in
           rw (last_room (read memory) l room)
           (record {
             tells = record {
-              refused = refl;
               bytes = ap (λ (y : Lines). y.bytes) same;
               used = ap (λ (y : Lines). y.used) same;
               next = refl;
@@ -228,10 +227,10 @@ module _ (memory lines : List ℕ) (e : Ended) where
   ran = ended (read memory) (lines_of lines e.used) e.place e.number e.ending
 
   pub going-told : e.ending ≡ 1
-      → TellsLast memory lines (record { refused = 0; used = e.used; next = At e.place (e.number - 1) }) (is_going_on ran)
+      → TellsLast memory lines (record { used = e.used; next = At e.place (e.number - 1) }) (is_going_on ran)
   going-told q =
       rw (going-full ran q)
-      (record { tells = record { refused = refl; bytes = refl; used = refl; next = refl }; short = λ y. absurd (never y) })
+      (record { tells = record { bytes = refl; used = refl; next = refl }; short = λ y. absurd (never y) })
     where
       never : At e.place (e.number - 1) ≡ Nothing → ⊥
       never y = let z : ◌≡◌ {A = ℕ} 0 1 = cc in omega arith
@@ -278,24 +277,23 @@ module _ (sheet before lines : List ℕ) (small : length sheet < 2 ^ 64) (room :
       (λ n. rw (last_session (read before) (lines_of lines 0)) (y.short n))
       (rw (last_session (read before) (lines_of lines 0)) (wrote_none _)) y.tells
 
-  pub no_part : PartOf sheet Nothing before before lines lines (record { refused = 0; used = 0; next = Nothing })
+  pub no_part : PartOf sheet Nothing before before lines lines (record { used = 0; next = Nothing })
   unfolding part_from
   no_part =
       part-told sheet Nothing before before lines lines _ small room tt (wrote_none _)
-      (record { refused = refl; bytes = refl; used = refl; next = refl })
+      (record { bytes = refl; used = refl; next = refl })
 
 -- Check 1.
 module _ (sheet : List ℕ) (from : Next) (before lines : List ℕ) where
-  pub parted_not : (Holds (lent before (lines_of lines 0)) → ⊥)
-      → Parted sheet from before before lines lines (record { refused = 1; used = 0; next = from })
+  pub parted_not : (Holds (lent before (lines_of lines 0)) → ⊥) → Parted sheet from before before lines lines (Err NoRoom)
   unfolding Parted
   parted_not f = rw (fails (lent before (lines_of lines 0)) f) (refl, refl, refl)
 
   module _ (after' lines' : List ℕ) (p : Part) (h : Holds (lent before (lines_of lines 0))) where
-    pub parted : PartOf sheet from before after' lines lines' p → Parted sheet from before after' lines lines' p
+    pub parted : PartOf sheet from before after' lines lines' p → Parted sheet from before after' lines lines' (Ok p)
     unfolding Parted
     parted x = rw (passes (lent before (lines_of lines 0)) h) x
 
-    pub part-is : Parted sheet from before after' lines lines' p → PartOf sheet from before after' lines lines' p
+    pub part-is : Parted sheet from before after' lines lines' (Ok p) → PartOf sheet from before after' lines lines' p
     unfolding Parted
     part-is x = rw (passes (lent before (lines_of lines 0)) h) at x

@@ -1,8 +1,10 @@
 -- A part of a sheet's lines: what lent line memory holds of them, and where the next part goes on.
-use Rattle.std.specs.Prelude.{ℕ, ◌+◌, ◌-◌, ◌≤◌, List, ◌≡◌, length, take}
+use Rattle.std.specs.Prelude.{ℕ, ◌+◌, ◌-◌, ◌≤◌, List, ◌≡◌, length, take, Result, Result.Err, IsOkAnd}
 use Rattle.session.specs.Table.{Session, Wrote, read}
 use Rattle.rules.specs.Formula.{Holds, choose, Formula.◌≐◌}
 use Rattle.rules.specs.Sound.{kept}
+use Rattle.rules.specs.declared.refusals.Refusal.{Refusal}
+use Rattle.rules.specs.declared.refusals.Refusal.TheVariants.{NoRoom}
 use Rattle.sheet.specs.declared.Next.{Next}
 use Rattle.sheet.specs.declared.Next.TheVariants.{At, LastLine, Nothing}
 use Rattle.sheet.specs.declared.Part.{Part}
@@ -42,7 +44,6 @@ parts_left sheet Nothing = 0
 
 -- What the code tells of a part, and the lines that it leaves.
 pub record Tells (lines : List ℕ) (p : Part) (t : PartRun) : Type 0 where
-  pub refused : p.refused ≡ 0
   pub bytes : lines ≡ t.lines.bytes
   pub used : p.used ≡ t.lines.used
   pub next : p.next ≡ t.next
@@ -62,9 +63,9 @@ pub record PartOf (sheet : List ℕ) (from : Next) (before after' lines lines' :
   pub keeps : Holds (kept (read before)) → Holds (kept (read after'))
   pub further : parts_left sheet p.next ≤ parts_left sheet from - 1
 
--- Under check 1 nothing changes.
-unfoldable pub Parted : List ℕ → Next → List ℕ → List ℕ → List ℕ → List ℕ → Part → Type 0
-Parted sheet from before after' lines lines' p =
+-- Under check 1 nothing changes, and the answer is its refusal.
+unfoldable pub Parted : List ℕ → Next → List ℕ → List ℕ → List ℕ → List ℕ → Result Part Refusal → Type 0
+Parted sheet from before after' lines lines' r =
     choose (lent before (lines_of lines 0))
-    (PartOf sheet from before after' lines lines' p)
-    ((after' ≡ before) × (lines' ≡ lines) × (p ≡ record { refused = 1; used = 0; next = from }))
+    (IsOkAnd r (λ p. PartOf sheet from before after' lines lines' p))
+    ((after' ≡ before) × (lines' ≡ lines) × (r ≡ Err NoRoom))

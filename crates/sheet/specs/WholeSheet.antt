@@ -2,19 +2,18 @@
 use Rattle.std.specs.Prelude.{ℕ, ◌≤◌, ◌<◌, List, length}
 use Rattle.std.proofs.Math.Path.{◌≡◌, refl, ap, sym}
 use Rattle.std.proofs.Common.{◌∙◌, arith, lit≤, lit<, le-leb}
+use Rattle.std.proofs.lemmas.Bool.{lt-leb}
 use Rattle.session.specs.Table.{Session, Wrote, read, words}
 use Rattle.session.specs.TableLaws.{wrote_then}
-use Rattle.session.specs.Fresh.{fresh_session, Leaves}
-use Rattle.rules.specs.Formula.{Holds, choose, not, Formula.◌≐◌}
+use Rattle.session.specs.Fresh.{fresh_session, Leaves, refused_length}
+use Rattle.rules.specs.Formula.{Holds, choose, not, Formula.◌≐◌, Formula.◌≼◌}
 use Rattle.rules.specs.FormulaLaws.{Case, decide, passes, fails, choose_yes, choose_no, Case.it_does, Case.it_does_not}
 use Rattle.rules.specs.Sound.{sound, kept}
-use Rattle.record.specs.declared.Place.{Place}
-use Rattle.record.specs.declared.Place.TheVariants.{Behind, Refused}
-use Rattle.record.specs.RecordReading.{placed, refused_by, place_of}
+use Rattle.record.specs.RecordReading.{Place, Behind, Refused, placed, refused_by, place_of}
 use Rattle.record.specs.Refusals.{refusal-most}
 use Rattle.record.specs.Sheet.{head_refusal, head_checks, first_record, head_at}
 use Rattle.laws.specs.FreshKept.{fresh_kept}
-use Rattle.sheet.specs.declared.Ended.{Ended}
+use Rattle.sheet.specs.Told.{Ended}
 use Rattle.sheet.specs.Run.{Lines, has_room, with_line, ended, ended_by, run_from, run_sheet, run_at}
 use Rattle.sheet.specs.RunLaws.{sheet_unsound, sheet_refused, sheet_runs, run-start, run-behind}
 use Rattle.sheet.specs.Going.{lines_of, lent, Ends, ends_as}
@@ -163,6 +162,21 @@ ends_then sheet before middle after lines lines' used e s w x =
       number = y.number;
       ending = y.ending;
     }
+
+-- whether a fresh session was written, by the answer
+pub fresh_long : (ws : List ℕ) → 0 ≡ refused_length ws → words ≤ length ws
+fresh_long ws e = go (decide (words ≼ length ws))
+  where
+    go : Case (words ≼ length ws) → words ≤ length ws
+    go (it_does h) = h
+    go (it_does_not f) =
+        let z : ◌≡◌ {A = ℕ} 0 1 = rw (lt-leb words (length ws) (omega arith)) at e in
+        absurd (omega arith)
+
+pub fresh_short : (ws : List ℕ) → 1 ≡ refused_length ws → words ≤ length ws → ⊥
+fresh_short ws e h =
+    let z : ◌≡◌ {A = ℕ} 1 0 = rw (le-leb words (length ws) h) at e in
+    omega arith
 
 -- a fresh session, written into memory that is long enough
 module _ (before after : List ℕ) (long : words ≤ length before) (w : Leaves before after fresh_session) where

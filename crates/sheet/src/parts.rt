@@ -1,57 +1,51 @@
 // A sheet's lines in parts: a part fills lent line memory, and tells where the next one goes on.
-ghost use Rattle.std.specs.Prelude.{◌≡◌, true, ◌≤◌, length};
-ghost use Rattle.session.specs.Table.{read, words};
+ghost use Rattle.std.specs.Prelude.{◌≡◌, true, ◌≤◌};
+ghost use Rattle.session.specs.Table.{read};
 ghost use Rattle.rules.specs.Formula.{Holds};
 ghost use Rattle.rules.specs.Sound.{kept};
-ghost use Rattle.sheet.specs.Run.{ended};
+ghost use Rattle.rules.specs.Refusals.{refusal_told};
+ghost use Rattle.sheet.specs.Run.{has_room, ended};
 ghost use Rattle.sheet.specs.Going.{lines_of, lent};
 ghost use Rattle.sheet.specs.SheetPrinted.{records_before};
 ghost use Rattle.sheet.specs.PartOf.{TellsLast, last_part, is_going_on, PartOf, Parted};
 
-use crate::{Ended, Next, Part, is_kept, is_lent, put_last_line, run_at};
-use rules::refusals;
+use crate::{Ended, Next, Part, has_room, is_kept, put_last_line, run_at};
+use rules::Refusal;
+use session::{Memory, WORDS};
 
 // How many records stand before a place: no more than bytes, whatever a caller says.
 fn records_before(at: usize, k: u64) -> u64
     ensures { result ≡ records_before at k }
 {
-    if k <= at as u64 {
-        return k;
-    }
-    at as u64
+    k.min(at as u64)
 }
 
 // The last line behind the lines, if there is room for it. Internal.
-fn last_part(memory: &[u64], lines: &mut [u8], used: usize) -> Part
-    requires { words ≤ length memory.now }
+fn last_part(memory: &Memory, lines: &mut [u8], used: usize) -> Part
     ensures { TellsLast memory.now lines.new result (last_part (read memory.now) (lines_of lines.old used)) }
 {
-    let last = put_last_line(memory, lines, used);
-    if last.refused != 0 {
-        return Part {
-            refused: 0,
+    match put_last_line(memory, lines, used) {
+        Ok(used) => Part {
+            used,
+            next: Next::Nothing,
+        },
+        Err(_) => Part {
             used,
             next: Next::LastLine,
-        };
-    }
-    Part {
-        refused: 0,
-        used: last.used,
-        next: Next::Nothing,
+        },
     }
 }
 
 // A run as a part: where it met 1, the next part goes on at the record that was not run; after any other ending comes the last
 // line. Internal.
-fn part_of(run: Ended, memory: &[u64], lines: &mut [u8]) -> Part
-    requires { (words ≤ length memory.now) × (run.ending ≡ 1 → 1 ≤ run.number) }
+fn part_of(run: Ended, memory: &Memory, lines: &mut [u8]) -> Part
+    requires { refusal_told run.ending ≡ 1 → 1 ≤ run.number }
     ensures { TellsLast memory.now lines.new result
         (is_going_on (ended (read memory.now) (lines_of lines.old run.used) run.place run.number
-        run.ending)) }
+        (refusal_told run.ending))) }
 {
-    if run.ending == refusals::NO_ROOM {
+    if run.ending == Err(Refusal::NoRoom) {
         return Part {
-            refused: 0,
             used: run.used,
             next: Next::At(run.place, run.number - 1),
         };
@@ -59,16 +53,9 @@ fn part_of(run: Ended, memory: &[u64], lines: &mut [u8]) -> Part
     last_part(memory, lines, run.used)
 }
 
-// The part of a sheet's lines that starts at a place. Internal: for callers that have shown check 1 to be met and, where they
-// say `sure`, the session to be kept.
-pub fn run_part_from(
-    sheet: &[u8],
-    from: Next,
-    memory: &mut [u64],
-    lines: &mut [u8],
-    sure: bool,
-) -> Part
-    requires { Holds (lent memory.old (lines_of lines.old 0)) × (sure ≡ true → Holds (kept (read memory.old))) }
+// The part of a sheet's lines that starts at a place. Internal; `sure` as in `is_admitted`.
+fn part_from(sheet: &[u8], from: Next, memory: &mut Memory, lines: &mut [u8], sure: bool) -> Part
+    requires { Holds (has_room (lines_of lines.old 0)) × (sure ≡ true → Holds (kept (read memory.old))) }
     ensures { PartOf sheet.now from memory.old memory.new lines.old lines.new result }
 {
     match from {
@@ -79,25 +66,46 @@ pub fn run_part_from(
         }
         Next::LastLine => last_part(memory, lines, 0),
         Next::Nothing => Part {
-            refused: 0,
             used: 0,
             next: Next::Nothing,
         },
     }
 }
 
+// The same of a session in longer memory, for callers that have shown check 1 to be met and, where they say `sure`, the session to
+// be kept.
+pub fn run_part_from(
+    sheet: &[u8],
+    from: Next,
+    memory: &mut [u64],
+    lines: &mut [u8],
+    sure: bool,
+) -> Part
+    requires { Holds (lent memory.old (lines_of lines.old 0)) × (sure ≡ true → Holds (kept (read memory.old))) }
+    ensures { PartOf sheet.now from memory.old memory.new lines.old lines.new result }
+{
+    let Some(session) = memory.first_chunk_mut::<WORDS>() else {
+        unreachable!()
+    };
+    part_from(sheet, from, session, lines, sure)
+}
+
 // The part of a sheet's lines that starts at a place, on a session in lent memory: the lines of the records until the line
 // memory is full and, when all are run, the last line. A kept session is looked at once; any other at each record.
-pub fn run_part(sheet: &[u8], from: Next, memory: &mut [u64], lines: &mut [u8]) -> Part
+pub fn run_part(
+    sheet: &[u8],
+    from: Next,
+    memory: &mut [u64],
+    lines: &mut [u8],
+) -> Result<Part, Refusal>
     ensures { Parted sheet.now from memory.old memory.new lines.old lines.new result }
 {
-    if !is_lent(memory, lines, 0) {
-        return Part {
-            refused: refusals::NO_ROOM,
-            used: 0,
-            next: from,
-        };
+    let Some(session) = memory.first_chunk_mut::<WORDS>() else {
+        return Err(Refusal::NoRoom);
+    };
+    if !has_room(lines, 0) {
+        return Err(Refusal::NoRoom);
     }
-    let sure = is_kept(memory);
-    run_part_from(sheet, from, memory, lines, sure)
+    let sure = is_kept(session);
+    Ok(part_from(sheet, from, session, lines, sure))
 }

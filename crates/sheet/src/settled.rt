@@ -1,17 +1,17 @@
 // Whether no satisfied slot has a link still to come. Internal: callers have shown that the memory holds a sound session, so
 // that each link leads to a place.
-ghost use Rattle.std.specs.Prelude.{◌≡◌, ◌+◌, ◌≤◌, length};
-ghost use Rattle.session.specs.Table.{read, words};
+ghost use Rattle.std.specs.Prelude.{◌≡◌, ◌+◌};
+ghost use Rattle.session.specs.Table.{read};
 ghost use Rattle.session.specs.Lent.{was};
 ghost use Rattle.rules.specs.Formula.{Holds, test};
 ghost use Rattle.rules.specs.Sound.{sound, settled};
 ghost use Rattle.sheet.specs.Settled.{link_settled, Leads};
 
-use session::{Field, names};
+use session::{Field, Memory, names};
 
 // Whether link l is delivered, leads to an event, or to a slot that is not satisfied.
-fn is_link_settled(s: &[u64], l: u64) -> bool
-    requires { (words ≤ length s.now) × Leads (read s.now) l }
+fn is_link_settled(s: &Memory, l: u64) -> bool
+    requires { Leads (read s.now) l }
     ensures { result ≡ test (link_settled (was s.now) l) }
 {
     if session::get(s, Field::LinkState, l as usize) == names::DELIVERED {
@@ -26,17 +26,15 @@ fn is_link_settled(s: &[u64], l: u64) -> bool
 }
 
 // Looks at each link once, where the rule goes by slots.
-pub fn is_settled(s: &[u64]) -> bool
-    requires { (words ≤ length s.now) × Holds (sound (read s.now)) }
+pub fn is_settled(s: &Memory) -> bool
+    requires { Holds (sound (read s.now)) }
     ensures { result ≡ test (settled (was s.now)) }
 {
     let links = session::get(s, Field::Links, 0);
-    let mut l: u64 = 0;
-    while l <= links {
+    for l in 0..=links {
         if !is_link_settled(s, l) {
             return false;
         }
-        l += 1;
     }
     true
 }

@@ -1,5 +1,6 @@
 -- The run without lines that counts: before each record, the answers so far and those from there on are the whole sheet's.
-use Rattle.std.specs.Prelude.{ℕ, suc, ◌+◌, ◌-◌, ◌≤◌, ◌<◌, ◌≡◌, refl, drop}
+use Rattle.std.specs.Prelude.{ℕ, suc, ◌+◌, ◌-◌, ◌≤◌, ◌<◌, ◌≡◌, refl, drop, Option, Option.Some, Option.None}
+use Rattle.std.specs.Int.{from_bool}
 use mathlib.Core.List.{List, [], ◌∷◌, ◌++◌, append_assoc, append-nil}
 use Rattle.std.proofs.Math.Path.{ap, sym}
 use Rattle.std.proofs.Common.{◌∙◌, arith}
@@ -18,11 +19,9 @@ use Rattle.sheet.specs.SheetPrinted.{Printed, print_from}
 use Rattle.sheet.specs.PrintLaws.{print_end, print_refused, print_on, prints_enough}
 use Rattle.sheet_counts.specs.declared.Tally.{Tally}
 use Rattle.sheet_counts.specs.declared.Told.{Told}
-use Rattle.sheet_counts.specs.declared.Went.{Went}
-use Rattle.sheet_counts.specs.declared.Went.TheVariants.{On, Stopped}
 use Rattle.sheet_counts.specs.Answers.{Answered, answered, answer_to, answers_from, is_refused, is_start, how_many, counts_in}
 use Rattle.sheet_counts.specs.HowMany.{one, how_many_last, how_many-most}
-use Rattle.sheet_counts.specs.Telling.{told}
+use Rattle.sheet_counts.specs.Telling.{told, counted_one}
 use Rattle.sheet_counts.specs.AnswerCases.{answers-end, answers-refused, answers_on_lem, answers_enough}
 
 -- What is counted and left from a place on, where nothing was counted before.
@@ -57,21 +56,22 @@ pub record Ends (sheet : List ℕ) (at k : ℕ) (s t : Session) : Type 0 where
   pub answers : (n : ℕ) → answers_from sheet (suc n) at k s ≡ last ∷ []
   pub session : (n : ℕ) → (print_from sheet (suc n) at k s).session ≡ t
 
-unfoldable pub Leads : List ℕ → ℕ → ℕ → Session → Session → Went → Type 0
-Leads sheet at k s t (On next answer) = LeadsOn sheet at k s t next answer
-Leads sheet at k s t Stopped = Ends sheet at k s t
+-- where a record leads: behind it to the next one, or it ends the sheet
+unfoldable pub Leads : List ℕ → ℕ → ℕ → Session → Session → Option (ℕ × Told) → Type 0
+Leads sheet at k s t (Some on) = LeadsOn sheet at k s t on.0 on.1
+Leads sheet at k s t None = Ends sheet at k s t
 
 -- What running one record does: the words past the layout stay, the
 -- session is kept, and after any number of records its answer is the next.
-pub record Goes (sheet : List ℕ) (at : ℕ) (before after : List ℕ) (w : Went) : Type 0 where
+pub record Goes (sheet : List ℕ) (at : ℕ) (before after : List ℕ) (w : Option (ℕ × Told)) : Type 0 where
   pub same_length : length after ≡ length before
   pub past : drop words after ≡ drop words before
   pub keeps : Holds (kept (read after))
   pub leads : (k : ℕ) → Leads sheet at k (read before) (read after) w
 
 -- the next record stands behind this one
-pub onward_of : (sheet : List ℕ) (at : ℕ) (before after : List ℕ) (next : ℕ) (answer : Told) (w : Went)
-    → Goes sheet at before after w → w ≡ On next answer → at < next
+pub onward_of : (sheet : List ℕ) (at : ℕ) (before after : List ℕ) (next : ℕ) (answer : Told) (w : Option (ℕ × Told))
+    → Goes sheet at before after w → w ≡ Some (next, answer) → at < next
 unfolding Leads
 onward_of sheet at before after next answer w o e = ((rw e at o).leads 0).onward
 
@@ -79,7 +79,7 @@ module _ (sheet : List ℕ) (at : ℕ) (ws : List ℕ) (inside : at < length she
   is : Holds (sound (read ws))
   is = kept-sound (read ws) k
 
-  pub goes_stopped : ((record_at sheet at).refused ≡ 0 → ⊥) → Goes sheet at ws ws Stopped
+  pub goes_stopped : ((record_at sheet at).refused ≡ 0 → ⊥) → Goes sheet at ws ws None
   unfolding Leads
   goes_stopped unmet =
       let n = (record_at sheet at).refused in
@@ -98,8 +98,10 @@ module _ (sheet : List ℕ) (at : ℕ) (ws : List ℕ) (inside : at < length she
   pub goes_on : (after : List ℕ) → (record_at sheet at).refused ≡ 0
       → Wrote ws after (step (read ws) (record_at sheet at).operation).leaves
       → Goes sheet at ws after
-      (On (record_at sheet at).next
-      (told (step (read ws) (record_at sheet at).operation).refused (record_at sheet at).operation.code))
+      (Some (
+        (record_at sheet at).next,
+        told (step (read ws) (record_at sheet at).operation).refused (record_at sheet at).operation.code,
+      ))
   unfolding Leads
   goes_on after z w =
       let op = (record_at sheet at).operation in
@@ -198,7 +200,7 @@ module _ (sheet : List ℕ) (first : ℕ) (before ws : List ℕ) (at records ref
     session_here = g.session ∙ ap (λ (m : ℕ). (print_from sheet m at records (read ws)).session) one-step
 
     -- the record here has the last answer
-    pub running_stop : Goes sheet at ws after Stopped
+    pub running_stop : Goes sheet at ws after None
         → (tally_of (records + 1) (refused + 1) starts (read after) ≡ counts_from sheet first (read before))
         × Wrote before after left
     unfolding Leads how_many
@@ -215,8 +217,9 @@ module _ (sheet : List ℕ) (first : ℕ) (before ws : List ℕ) (at records ref
         )
 
     -- one more answer
-    pub running_on : (next : ℕ) (answer : Told) → Goes sheet at ws after (On next answer)
-        → Running sheet first before after next (records + 1) (refused + answer.refused) (starts + answer.starts)
+    pub running_on : (next : ℕ) (answer : Told) → Goes sheet at ws after (Some (next, answer))
+        → Running sheet first before after next (records + 1) (refused + from_bool answer.refused)
+        (starts + from_bool answer.start)
     unfolding Leads
     running_on next answer o =
         let l = o.leads records in
@@ -231,9 +234,21 @@ module _ (sheet : List ℕ) (first : ℕ) (before ws : List ℕ) (at records ref
           done = g.done ++ a ∷ [];
           records_done = omega (arith, length-append g.done (a ∷ []), g.records_done);
           refused_done =
-              omega (arith, how_many_last is_refused g.done a, g.refused_done, ap (λ (x : Told). x.refused) l.counted);
+              omega (
+                arith,
+                how_many_last is_refused g.done a,
+                g.refused_done,
+                ap (λ (x : Told). from_bool x.refused) l.counted,
+                counted_one (is_refused a),
+              );
           starts_done =
-              omega (arith, how_many_last is_start g.done a, g.starts_done, ap (λ (x : Told). x.starts) l.counted);
+              omega (
+                arith,
+                how_many_last is_start g.done a,
+                g.starts_done,
+                ap (λ (x : Told). from_bool x.start) l.counted,
+                counted_one (is_start a),
+              );
           answers = answers-here ∙ ap with_done (l.answers behind)
               ∙ sym (append_assoc g.done (a ∷ []) (answers_from sheet behind next k (read after)))
               ∙ ap (λ (x : List Answered). (g.done ++ a ∷ []) ++ x)

@@ -7,7 +7,7 @@ use Rattle.session.specs.Fresh.{fresh_session}
 use Rattle.rules.specs.Formula.{Holds, not, Formula.◌≐◌, Formula.◌and◌}
 use Rattle.rules.specs.FormulaLaws.{choose_yes, choose_no}
 use Rattle.rules.specs.Sound.{sound, kept}
-use Rattle.record.specs.declared.Place.TheVariants.{Behind, Refused}
+use Rattle.record.specs.RecordReading.{Behind, Refused}
 use Rattle.record.specs.Sheet.{head_refusal, head_at}
 use Rattle.laws.specs.FreshKept.{fresh_kept}
 use Rattle.laws.specs.ByName.{kept-sound}

@@ -5,7 +5,7 @@ use Rattle.std.proofs.Math.Path.{refl}
 use Rattle.std.proofs.Common.{ap, ◌∙◌, arith}
 use Rattle.session.specs.Table.{Session}
 use Rattle.session.specs.Fresh.{fresh_session}
-use Rattle.rules.specs.Formula.{Holds, choose, not, Formula.◌≐◌, Formula.◌≼◌}
+use Rattle.rules.specs.Formula.{Formula.◌and◌, Holds, choose, not, Formula.◌≐◌, Formula.◌≼◌}
 use Rattle.rules.specs.FormulaLaws.{Case, decide, choose_yes, choose_no, Case.it_does, Case.it_does_not}
 use Rattle.rules.specs.Sound.{kept}
 use Rattle.rules.specs.Step.{answer, after, step}
@@ -20,8 +20,7 @@ use Rattle.sheet.specs.SheetPrinted.{Printed, print_from}
 use Rattle.sheet.specs.PrintLaws.{print_end, print_refused, print_on, print_head, print_records}
 use Rattle.sheet_counts.specs.declared.Tally.{Tally}
 use Rattle.sheet_counts.specs.Answers.{Answered, answer_to, answers_from, is_refused, is_start, how_many, counts_in, counts_of}
-use Rattle.sheet_counts.specs.HowMany.{how_many-next}
-use Rattle.sheet_counts.specs.Telling.{told}
+use Rattle.sheet_counts.specs.HowMany.{one, how_many-next}
 use Rattle.sheet_counts.specs.AnswerCases.{answers-end, answers-refused, answers_on_lem, answers-head, answers_records}
 use Rattle.sheet_counts.specs.FreshSheet.{fresh-sound}
 
@@ -30,8 +29,8 @@ abbrev pub with_one_more : ℕ → ℕ → Tally → Tally
 with_one_more refused code t =
     record {
       records = suc t.records;
-      refused = (told refused code).refused + t.refused;
-      starts = (told refused code).starts + t.starts;
+      refused = one (not (refused ≐ 0)) + t.refused;
+      starts = one (code ≐ 11 and refused ≐ 0) + t.starts;
       dropped = t.dropped;
     }
 

@@ -1,12 +1,14 @@
 -- Which blocks some slot holds, kept in a row of marks.
-use Rattle.std.specs.Prelude.{ℕ, ◌+◌, ◌<◌, ◌≡◌, refl, List, set}
-use Rattle.std.proofs.Common.{subst}
+use Rattle.std.specs.Prelude.{ℕ, ◌+◌, ◌<◌, ◌≡◌, refl, List, set, not}
+use Rattle.std.proofs.Common.{subst, ◌∙◌}
 use native.Mathlib.Omega.{arith}
 use Rattle.session.specs.Table.{Session}
 use Rattle.session.specs.declared.Field.TheVariants.{SlotMark, SlotPayload}
 use Rattle.session.specs.Names.{held, object_places}
-use Rattle.rules.specs.Formula.{Formula, Holds, choose, Formula.some}
-use Rattle.rules.specs.FormulaLaws.{choose_yes, choose_no, choose-same}
+use Rattle.rules.specs.Formula.{Formula, Holds, test, choose, Formula.each, Formula.some}
+use Rattle.rules.specs.Formula as formula
+use Rattle.rules.specs.FormulaLaws.{choose_yes, choose_no, choose-same, test-same}
+use Rattle.rules.specs.Bools.{test-not}
 use Rattle.rules.specs.Reading.{slot_holds}
 use Rattle.laws.specs.Places.{Places, places, Places.one, Places.two}
 use Rattle.sound.specs.Row.{Row, row-set, row_same}
@@ -21,6 +23,12 @@ some_skip i f n x = go (places x.0 i)
 
 pub some_keep : (i : ℕ) (f : ℕ → Formula) → Holds (some i f) → Holds (some (i + 1) f)
 some_keep i f x = (x.0, (let b = x.1 in omega arith), x.2)
+
+-- it fails at each place exactly if it holds at none
+pub none_each : (n : ℕ) (f : ℕ → Formula) → test (each n (λ k. formula.not (f k))) ≡ not (test (some n f))
+none_each n f =
+    test-same (each n (λ k. formula.not (f k))) (formula.not (some n f)) (λ h x. h x.0 x.1 x.2)
+    (λ h k b x. h (k, b, x)) ∙ test-not (some n f)
 
 module _ (s : Session) where
   -- 1 if one of the first i slots holds block b, else 0

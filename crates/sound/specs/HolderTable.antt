@@ -11,9 +11,9 @@ use Rattle.rules.specs.FormulaLaws.{passes, fails, test-same}
 use Rattle.rules.specs.Modes.{conflict, is_mode}
 use Rattle.rules.specs.ModeLaws.{conflict_not_ro}
 use Rattle.laws.specs.Places.{Places, places, Places.one, Places.two}
-use Rattle.rules.specs.Bools.{test-both, test_either, test-not}
+use Rattle.rules.specs.Bools.{test-both, test_either}
 use Rattle.rules.specs.Sound.{clash}
-use Rattle.sound.specs.Held.{some_skip, some_keep}
+use Rattle.sound.specs.Held.{some_skip, some_keep, none_each}
 
 -- the place of block b and mode c + 1
 abbrev pub cell : ℕ → ℕ → ℕ
@@ -211,6 +211,4 @@ module _ (s : Session) where
 
   -- no slot conflicts exactly if none of them does
   pub none_clashes : (i : ℕ) → test (each i (λ k. formula.not (clash s i k))) ≡ not (test (clashes i))
-  none_clashes i =
-      test-same (each i (λ k. formula.not (clash s i k))) (formula.not (clashes i)) (λ h x. h x.0 x.1 x.2)
-      (λ h k b x. h (k, b, x)) ∙ test-not (clashes i)
+  none_clashes i = none_each i (clash s i)

@@ -90,6 +90,10 @@ module _ (s : Session) where
     pub mode : Holds (is_mode (s SlotMode i))
     pub task_low : 1 ≤ i / 16
 
+  -- what every slot that is held is
+  abbrev pub AreHeld : Type 0
+  AreHeld = (i : ℕ) → i < 16 * (s Objects 0 + 1) → s SlotMark i ≡ held → IsHeld i
+
   pub slots-held : Holds (objects s) → s Objects 0 ≤ most_objects → Holds (slots s) → (i : ℕ) → i < 16 * (s Objects 0 + 1)
       → s SlotMark i ≡ held → IsHeld i
   slots-held o b sl i l m =

@@ -23,6 +23,11 @@ is_made_by s = counted_by (leads_from s)
 unfoldable pub served_by : Session → ℕ → ℕ → ℕ
 served_by s = counted_by (served_from s)
 
+-- the two rows, of the first l links
+pub record Noted (s : Session) (a b : List ℕ) (l : ℕ) : Type 0 where
+  pub made : Row a object_places (is_made_by s l)
+  pub served : Row b object_places (served_by s l)
+
 module _ (f : ℕ → ℕ → Formula) (a : List ℕ) where
   -- no link yet
   row_none : Row a object_places (λ e. 0) → Row a object_places (counted_by f 0)

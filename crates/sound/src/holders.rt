@@ -1,25 +1,26 @@
-// The rule that holds do not conflict. Internal: callers have shown the memory's length.
-ghost use Rattle.std.specs.Prelude.{◌≡◌, ℕ, ◌+◌, ◌*◌, ◌<◌, ◌≤◌, length, get_or};
-ghost use Rattle.session.specs.Table.{read, words};
+// The rule that holds do not conflict. `Holders` stays a clause: what it says of the row grows with each slot, so a type that carried
+// it would have the slot in every contract all the same.
+ghost use Rattle.std.specs.Prelude.{◌≡◌, ℕ, ◌+◌, ◌*◌, ◌<◌, ◌≤◌, get_or};
+ghost use Rattle.session.specs.Table.{read};
 ghost use Rattle.session.specs.Lent.{was};
 ghost use Rattle.session.specs.declared.Field.TheVariants.{SlotMark};
 ghost use Rattle.session.specs.Names.{held, most_objects, object_places, slot_places};
-ghost use Rattle.rules.specs.Formula.{test, Formula.each};
-ghost use Rattle.rules.specs.Sound.{clash_made, compatible_at};
+ghost use Rattle.rules.specs.Formula.{test};
+ghost use Rattle.rules.specs.Sound.{clash_made, compatible_at, compatible};
 ghost use Rattle.sound.specs.Row.{Row};
 ghost use Rattle.sound.specs.HolderTable.{Holders, joined, is_other, cell, cells, clashes};
-ghost use Rattle.sound.specs.RulesInOrder.{IsHeld};
+ghost use Rattle.sound.specs.RulesInOrder.{IsHeld, AreHeld};
 
+use crate::view::View;
 use reading::{of_object, of_slot};
 use rules::modes::conflicts;
-use session::{Field, names};
+use session::{Field, Memory, names};
 
 // A place for each handle and each of the four modes.
 const CELLS: usize = names::OBJECT_PLACES * 4;
 
 // The hold of slot i conflicts with the hold of the task that made its block.
-fn clashes_with_maker(s: &[u64], i: u64) -> bool
-    requires { words ≤ length s.now }
+fn clashes_with_maker(s: &Memory, i: u64) -> bool
     ensures { result ≡ test (clash_made (was s.now) i) }
 {
     let block = of_slot(s, Field::SlotPayload, i);
@@ -28,7 +29,8 @@ fn clashes_with_maker(s: &[u64], i: u64) -> bool
     (of_object(s, Field::BlockHeld, block) == 1) & (other & conflicts(mode, names::RW))
 }
 
-// The holder noted once task u holds too: a number past every handle where there is more than one.
+// The holder noted once task u holds too: 0 for nobody, and a number past every handle for more than one, as `joined` says. With numbers
+// `is_other` is two comparisons; with an enum it would be a `match`, a branch in the pass.
 fn join(w: u64, u: u64) -> u64
     ensures { result ≡ joined w u }
 {
@@ -52,8 +54,8 @@ fn is_other(row: &[u64; CELLS], b: u64, c: u64, t: u64) -> bool
 }
 
 // Whether the hold of slot i conflicts with that of an earlier slot.
-fn does_clash(s: &[u64], row: &[u64; CELLS], i: u64) -> bool
-    requires { (words ≤ length s.now) × (i < slot_places) × IsHeld (read s.now) i × Holders (read s.now) row.now i }
+fn does_clash(s: &Memory, row: &[u64; CELLS], i: u64) -> bool
+    requires { (i < slot_places) × IsHeld (read s.now) i × Holders (read s.now) row.now i }
     ensures { result ≡ test (clashes (was s.now) i) }
 {
     let b = of_slot(s, Field::SlotPayload, i);
@@ -65,8 +67,8 @@ fn does_clash(s: &[u64], row: &[u64; CELLS], i: u64) -> bool
     rw | (ew | constant)
 }
 
-fn is_compatible(s: &[u64], row: &[u64; CELLS], i: u64) -> bool
-    requires { (words ≤ length s.now) × (i < slot_places) × (read s.now SlotMark i ≡ held → IsHeld (read s.now) i)
+fn is_compatible(s: &Memory, row: &[u64; CELLS], i: u64) -> bool
+    requires { (i < slot_places) × (read s.now SlotMark i ≡ held → IsHeld (read s.now) i)
         × Holders (read s.now) row.now i }
     ensures { result ≡ test (compatible_at (was s.now) i) }
 {
@@ -77,8 +79,8 @@ fn is_compatible(s: &[u64], row: &[u64; CELLS], i: u64) -> bool
 }
 
 // Notes the holder of the block that slot i holds.
-fn note_held(s: &[u64], row: &mut [u64; CELLS], i: u64)
-    requires { (words ≤ length s.now) × (i < slot_places) × (read s.now SlotMark i ≡ held) × IsHeld (read s.now) i
+fn note_held(s: &Memory, row: &mut [u64; CELLS], i: u64)
+    requires { (i < slot_places) × (read s.now SlotMark i ≡ held) × IsHeld (read s.now) i
         × Holders (read s.now) row.old i }
     ensures { Holders (was s.now) row.new (i + 1) }
 {
@@ -88,8 +90,8 @@ fn note_held(s: &[u64], row: &mut [u64; CELLS], i: u64)
     row[at] = join(row[at], i / 16);
 }
 
-fn note_holder(s: &[u64], row: &mut [u64; CELLS], i: u64)
-    requires { (words ≤ length s.now) × (i < slot_places) × (read s.now SlotMark i ≡ held → IsHeld (read s.now) i)
+fn note_holder(s: &Memory, row: &mut [u64; CELLS], i: u64)
+    requires { (i < slot_places) × (read s.now SlotMark i ≡ held → IsHeld (read s.now) i)
         × Holders (read s.now) row.old i }
     ensures { Holders (was s.now) row.new (i + 1) }
 {
@@ -98,29 +100,25 @@ fn note_holder(s: &[u64], row: &mut [u64; CELLS], i: u64)
     }
 }
 
-fn are_compatible_by(s: &[u64], row: &mut [u64; CELLS], n: u64) -> bool
-    requires { (words ≤ length s.now) × (n ≤ most_objects)
-        × ((i : ℕ) → i < 16 * (n + 1) → read s.now SlotMark i ≡ held → IsHeld (read s.now) i)
-        × Row row.old cells (λ p. 0) }
-    ensures { result ≡ test (each (16 * (n + 1)) (compatible_at (was s.now))) }
+fn are_compatible_by(v: &View, row: &mut [u64; CELLS]) -> bool
+    requires held { AreHeld (read v.now.s.now) }
+    requires none { Row row.old cells (λ p. 0) }
+    ensures { result ≡ test (compatible (was v.now.s.now)) }
 {
-    let end = 16 * (n + 1);
+    let s = v.s;
     let mut ok = true;
-    let mut i: u64 = 0;
-    while i < end {
+    for i in 0..16 * (v.objects + 1) {
         ok = is_compatible(s, row, i) & ok;
         note_holder(s, row, i);
-        i += 1;
     }
     ok
 }
 
 // No two holds of different tasks conflict.
-pub fn are_compatible(s: &[u64], n: u64) -> bool
-    requires { (words ≤ length s.now) × (n ≤ most_objects)
-        × ((i : ℕ) → i < 16 * (n + 1) → read s.now SlotMark i ≡ held → IsHeld (read s.now) i) }
-    ensures { result ≡ test (each (16 * (n + 1)) (compatible_at (was s.now))) }
+pub fn are_compatible(v: &View) -> bool
+    requires { AreHeld (read v.now.s.now) }
+    ensures { result ≡ test (compatible (was v.now.s.now)) }
 {
     let mut row: [u64; CELLS] = [0; CELLS];
-    are_compatible_by(s, &mut row, n)
+    are_compatible_by(v, &mut row)
 }

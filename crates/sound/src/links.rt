@@ -1,17 +1,17 @@
-// The rules about links, and about the slots that they lead to. Internal: callers have shown the memory's length.
-ghost use Rattle.std.specs.Prelude.{◌≡◌, ◌+◌, ◌≤◌, length};
-ghost use Rattle.session.specs.Names.{most_links};
-ghost use Rattle.session.specs.Table.{words};
+// The rules about links, and about the slots that they lead to.
+ghost use Rattle.std.specs.Prelude.{◌≡◌, ◌+◌};
+ghost use Rattle.session.specs.declared.Field.TheVariants.{Links};
 ghost use Rattle.session.specs.Lent.{was};
-ghost use Rattle.rules.specs.Formula.{test, count, Formula.each};
-ghost use Rattle.rules.specs.Sound.{is_link, link_at, link_agrees, is_delivered};
+ghost use Rattle.rules.specs.Formula.{test, count};
+ghost use Rattle.rules.specs.Sound.{is_link, link_at, links, link_agrees, is_delivered};
 
+use crate::passes::all_below;
+use crate::view::View;
 use reading::{has_slot, is_made, is_user_event, of_link, of_object};
-use session::{Field, names};
+use session::{Field, Memory, names};
 
 // A link's state is in range and agrees with its source's.
-fn does_link_agree(s: &[u64], l: u64) -> bool
-    requires { words ≤ length s.now }
+fn does_link_agree(s: &Memory, l: u64) -> bool
     ensures { result ≡ test (link_agrees (was s.now) l) }
 {
     let source = of_link(s, Field::LinkSource, l);
@@ -28,8 +28,7 @@ fn does_link_agree(s: &[u64], l: u64) -> bool
 }
 
 // A link leads from an event to a slot that there is, and its state agrees with the event's.
-fn is_link(s: &[u64], l: u64) -> bool
-    requires { words ≤ length s.now }
+fn is_link(s: &Memory, l: u64) -> bool
     ensures { result ≡ test (is_link (was s.now) l) }
 {
     let source = of_link(s, Field::LinkSource, l);
@@ -40,45 +39,35 @@ fn is_link(s: &[u64], l: u64) -> bool
     is_made(s, source) & ((of_object(s, Field::Kind, source) == names::EVENT) & leads)
 }
 
-fn is_link_or_null(s: &[u64], l: u64) -> bool
-    requires { words ≤ length s.now }
+fn is_link_or_null(s: &Memory, l: u64) -> bool
     ensures { result ≡ test (link_at (was s.now) l) }
 {
     (l == 0) | is_link(s, l)
 }
 
-pub fn are_links(s: &[u64], n: u64) -> bool
-    requires { (words ≤ length s.now) × (n ≤ most_links) }
-    ensures { result ≡ test (each (n + 1) (link_at (was s.now))) }
+pub fn are_links(v: &View) -> bool
+    ensures { result ≡ test (links (was v.now.s.now)) }
 {
-    let mut ok = true;
-    let mut l: u64 = 0;
-    while l <= n {
-        ok = is_link_or_null(s, l) & ok;
-        l += 1;
-    }
-    ok
+    let s = v.s;
+    all_below(v.links + 1, |l| is_link_or_null(s, l))
 }
 
-fn is_delivered(s: &[u64], l: u64) -> bool
-    requires { words ≤ length s.now }
+fn is_delivered(s: &Memory, l: u64) -> bool
     ensures { result ≡ test (is_delivered (was s.now) l) }
 {
     of_link(s, Field::LinkState, l) == names::DELIVERED
 }
 
 // How many links are delivered.
-pub fn count_delivered(s: &[u64], n: u64) -> u64
-    requires { (words ≤ length s.now) × (n ≤ most_links) }
-    ensures { result ≡ count (n + 1) (is_delivered (was s.now)) }
+pub fn count_delivered(v: &View) -> u64
+    ensures { let s = was v.now.s.now in result ≡ count (s Links 0 + 1) (is_delivered s) }
 {
+    let s = v.s;
     let mut count: u64 = 0;
-    let mut l: u64 = 0;
-    while l <= n {
+    for l in 0..v.links + 1 {
         if is_delivered(s, l) {
             count += 1;
         }
-        l += 1;
     }
     count
 }

@@ -1,18 +1,18 @@
-// The rules about objects by themselves. Internal: callers have shown the memory's length.
-ghost use Rattle.std.specs.Prelude.{◌≡◌, ◌+◌, ◌≤◌, length};
-ghost use Rattle.session.specs.Names.{most_objects};
-ghost use Rattle.session.specs.Table.{words};
+// The rules about objects by themselves.
+ghost use Rattle.std.specs.Prelude.{◌≡◌, ◌+◌};
+ghost use Rattle.session.specs.declared.Field.TheVariants.{Objects};
 ghost use Rattle.session.specs.Lent.{was};
 ghost use Rattle.rules.specs.Formula.{test, Formula.each};
-ghost use Rattle.rules.specs.Sound.{counts, template_part, task_part, event_part, block_part, roots, object, latch_at};
+ghost use Rattle.rules.specs.Sound.{counts, template_part, task_part, event_part, block_part, roots, object, latch_at, latches};
 
+use crate::passes::all_below;
 use crate::places::is_payload;
+use crate::view::View;
 use reading::{is_made, of_object, of_slot};
 use rules::event_types::{is_event_type, is_link_count};
-use session::{Field, names};
+use session::{Field, Memory, names};
 
-pub fn are_counts(s: &[u64]) -> bool
-    requires { words ≤ length s.now }
+pub fn are_counts(s: &Memory) -> bool
     ensures { result ≡ test (counts (was s.now)) }
 {
     let objects = session::get(s, Field::Objects, 0);
@@ -20,8 +20,7 @@ pub fn are_counts(s: &[u64]) -> bool
     (2 <= objects) & ((objects <= names::MOST_OBJECTS) & (links <= names::MOST_LINKS))
 }
 
-pub fn template_part(s: &[u64], h: u64) -> bool
-    requires { words ≤ length s.now }
+pub fn template_part(s: &Memory, h: u64) -> bool
     ensures { result ≡ test (template_part (was s.now) h) }
 {
     let state = of_object(s, Field::TemplateState, h);
@@ -31,8 +30,7 @@ pub fn template_part(s: &[u64], h: u64) -> bool
         | !is & ((state == 0) & (count == 0))
 }
 
-pub fn task_part(s: &[u64], h: u64) -> bool
-    requires { words ≤ length s.now }
+pub fn task_part(s: &Memory, h: u64) -> bool
     ensures { result ≡ test (task_part (was s.now) h) }
 {
     let state = of_object(s, Field::TaskState, h);
@@ -46,8 +44,7 @@ pub fn task_part(s: &[u64], h: u64) -> bool
         | !is & ((state == 0) & ((creator == 0) & ((slots == 0) & ((finish == 0) & (output == 0)))))
 }
 
-pub fn event_part(s: &[u64], h: u64) -> bool
-    requires { words ≤ length s.now }
+pub fn event_part(s: &Memory, h: u64) -> bool
     ensures { result ≡ test (event_part (was s.now) h) }
 {
     let state = of_object(s, Field::EventState, h);
@@ -65,8 +62,7 @@ pub fn event_part(s: &[u64], h: u64) -> bool
         | !is & ((state == 0) & ((kind == 0) & ((payload == 0) & ((tally == 0) & (links == 0)))))
 }
 
-pub fn block_part(s: &[u64], h: u64) -> bool
-    requires { words ≤ length s.now }
+pub fn block_part(s: &Memory, h: u64) -> bool
     ensures { result ≡ test (block_part (was s.now) h) }
 {
     let state = of_object(s, Field::BlockState, h);
@@ -79,8 +75,7 @@ pub fn block_part(s: &[u64], h: u64) -> bool
         | !is & ((state == 0) & ((creator == 0) & (held == 0)))
 }
 
-fn is_object(s: &[u64], h: u64) -> bool
-    requires { words ≤ length s.now }
+fn is_object(s: &Memory, h: u64) -> bool
     ensures { result ≡ test (object (was s.now) h) }
 {
     let kind = of_object(s, Field::Kind, h);
@@ -89,21 +84,14 @@ fn is_object(s: &[u64], h: u64) -> bool
 }
 
 // Every object is of some kind, with that kind's fields in range and the others zero.
-pub fn are_objects(s: &[u64], n: u64) -> bool
-    requires { (words ≤ length s.now) × (n ≤ most_objects) }
-    ensures { result ≡ test (each (n + 1) (object (was s.now))) }
+pub fn are_objects(v: &View) -> bool
+    ensures { let s = was v.now.s.now in result ≡ test (each (s Objects 0 + 1) (object s)) }
 {
-    let mut ok = true;
-    let mut h: u64 = 0;
-    while h <= n {
-        ok = is_object(s, h) & ok;
-        h += 1;
-    }
-    ok
+    let s = v.s;
+    all_below(v.objects + 1, |h| is_object(s, h))
 }
 
-pub fn are_roots(s: &[u64]) -> bool
-    requires { words ≤ length s.now }
+pub fn are_roots(s: &Memory) -> bool
     ensures { result ≡ test (roots (was s.now)) }
 {
     let slot = (of_slot(s, Field::SlotMode, 32) == names::RW)
@@ -117,8 +105,7 @@ pub fn are_roots(s: &[u64]) -> bool
             & ((of_object(s, Field::Kind, 2) == names::TASK) & task))
 }
 
-fn is_latch(s: &[u64], e: u64) -> bool
-    requires { words ≤ length s.now }
+fn is_latch(s: &Memory, e: u64) -> bool
     ensures { result ≡ test (latch_at (was s.now) e) }
 {
     let state = of_object(s, Field::EventState, e);
@@ -129,15 +116,9 @@ fn is_latch(s: &[u64], e: u64) -> bool
 }
 
 // A fired latch has the count 0.
-pub fn are_latches(s: &[u64], n: u64) -> bool
-    requires { (words ≤ length s.now) × (n ≤ most_objects) }
-    ensures { result ≡ test (each (n + 1) (latch_at (was s.now))) }
+pub fn are_latches(v: &View) -> bool
+    ensures { result ≡ test (latches (was v.now.s.now)) }
 {
-    let mut ok = true;
-    let mut e: u64 = 0;
-    while e <= n {
-        ok = is_latch(s, e) & ok;
-        e += 1;
-    }
-    ok
+    let s = v.s;
+    all_below(v.objects + 1, |e| is_latch(s, e))
 }

@@ -18,6 +18,7 @@ pub fn read_full<R: Read>(reader: &mut R, memory: &mut [u8]) -> io::Result<usize
         × Consumes (R.remaining reader.old) (R.remaining reader.new) (take n memory.new)) }
 {
     let mut done = 0;
+    // A step is as long as a read was, so that no range counts it.
     while done < memory.len() {
         let n = reader.read(&mut memory[done..])?;
         if n == 0 {

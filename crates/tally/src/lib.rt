@@ -1,6 +1,7 @@
 #![tactic(auto)]
 
-// The tally of a class, lent to each sheet's run, which raises it.
+// The tally of a class, lent to each sheet's run, which raises it. `run_sheet` and `run_with`, which docs/ name, are lent memory of any length from a
+// session's on, so that it stays a slice.
 ghost use Rattle.std.specs.Prelude.{◌≡◌, ◌≤◌, length};
 ghost use Rattle.session.specs.Table.{read, words};
 ghost use Rattle.session.specs.Lent.{Becomes};
@@ -13,17 +14,11 @@ ghost use Rattle.tally.specs.Raise.{sum_to, raise};
 
 use sheet_counts::{Tally, count_sheet};
 
-// The largest number of 64 bits.
-pub const MOST: u64 = 18446744073709551615;
-
 // Two counts together, no more than the width's largest.
 fn capped(a: u64, b: u64) -> u64
     ensures { result ≡ sum_to a b }
 {
-    if MOST - a < b {
-        return MOST;
-    }
-    a + b
+    a.saturating_add(b)
 }
 
 // A tally raised by a sheet's four counts.
@@ -58,23 +53,19 @@ pub fn run_sheet(sheet: &[u8], memory: &mut [u64], tally: &mut Tally) -> Tally
 }
 
 // A sheet's run, and the tally that it leaves.
-#[derive(Clone, Copy)]
+#[derive(Clone, Copy, Debug, PartialEq, Eq)]
 pub struct Ran {
     pub counts: Tally,
     pub tally: Tally,
 }
 
 // A sheet's run with the tally by value: lends it to `run_sheet`.
-pub fn run_with(sheet: &[u8], memory: &mut [u64], tally: Tally) -> Ran
+pub fn run_with(sheet: &[u8], memory: &mut [u64], mut tally: Tally) -> Ran
     requires { (words ≤ length memory.old) × Holds (kept (read memory.old)) }
     ensures answer { result.counts ≡ counts_of sheet.now }
     ensures memory { Becomes memory.old memory.new (print_sheet sheet.now fresh_session).session }
     ensures tally { result.tally ≡ raise tally (counts_of sheet.now) }
 {
-    let mut mine = tally;
-    let counts = run_sheet(sheet, memory, &mut mine);
-    Ran {
-        counts,
-        tally: mine,
-    }
+    let counts = run_sheet(sheet, memory, &mut tally);
+    Ran { counts, tally }
 }

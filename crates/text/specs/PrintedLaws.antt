@@ -1,5 +1,5 @@
 -- What is printed has room, and lies whole in the memory that was lent for it.
-use Rattle.std.specs.Prelude.{ℕ, suc, ◌+◌, ◌≤◌, ◌<◌, Bool, true, false, List, [], ◌∷◌, ◌≡◌, refl, take}
+use Rattle.std.specs.Prelude.{ℕ, suc, ◌+◌, ◌≤◌, ◌<◌, Bool, true, false, List, [], ◌∷◌, ◌≡◌, refl, take, Result, Ok, Err, IsOk}
 use Rattle.std.proofs.Common.{ap, sym, ◌∙◌, arith, zero-add}
 use Rattle.std.proofs.Math.ListN.{length, drop, length-append}
 use Rattle.std.proofs.Math.Seq.{take_at}
@@ -15,17 +15,18 @@ use Rattle.text.specs.Put.{Put}
 use Rattle.text.specs.TextPrinted.{printed, printed_memory, line_text, is_too_long, most, printed_of, room_for}
 use Rattle.text.specs.declared.Mode.{Mode}
 use Rattle.text.specs.declared.Mode.TheVariants.{Between}
-use Rattle.text.specs.declared.printed.Printed.{Printed}
+use Rattle.rules.specs.declared.refusals.Refusal.{Refusal}
+use Rattle.rules.specs.declared.refusals.Refusal.TheVariants.{NoRoom}
 
 -- Nothing was refused, and all that is to be printed stands in the memory.
-pub record Whole (bytes : List ℕ) (r : Printed) (after : List ℕ) : Type 0 where
-  pub done : r.refused ≡ 0
-  pub inside : r.used ≤ length after
-  pub told : take r.used after ≡ bytes
+pub record Whole (bytes : List ℕ) (r : Result ℕ Refusal) (after : List ℕ) : Type 0 where
+  pub done : IsOk r
+  pub inside : (used : ℕ) → r ≡ Ok used → used ≤ length after
+  pub told : (used : ℕ) → r ≡ Ok used → take used after ≡ bytes
 
 module _ (room : ℕ) (bytes out : List ℕ) where
   module _ (short : length out < room) where
-    pub none_printed : printed room bytes out ≡ record { refused = 1; used = 0 }
+    pub none_printed : printed room bytes out ≡ Err NoRoom
     unfolding printed
     none_printed = choose_no (room ≼ length out) _ _ (λ l. omega arith)
 
@@ -34,7 +35,7 @@ module _ (room : ℕ) (bytes out : List ℕ) where
     none_memory = choose_no (room ≼ length out) _ _ (λ l. omega arith)
 
   module _ (enough : room ≤ length out) where
-    pub all_printed : printed room bytes out ≡ record { refused = 0; used = length bytes }
+    pub all_printed : printed room bytes out ≡ Ok (length bytes)
     unfolding printed
     all_printed = choose_yes (room ≼ length out) _ _ enough
 
@@ -43,12 +44,12 @@ module _ (room : ℕ) (bytes out : List ℕ) where
     all_memory = choose_yes (room ≼ length out) _ _ enough
 
     pub printed-put : (next : ℕ) (after : List ℕ) → Put out 0 bytes next after
-        → (◌≡◌ {A = Printed} (record { refused = 0; used = next }) (printed room bytes out))
+        → (◌≡◌ {A = Result ℕ Refusal} (Ok next) (printed room bytes out))
         × (after ≡ printed_memory room bytes out)
     printed-put next after p =
-        (ap (λ (n : ℕ). record { refused = 0; used = n }) (p.place ∙ zero-add _) ∙ sym all_printed, p.written ∙ sym all_memory)
+        (ap Ok (p.place ∙ zero-add _) ∙ sym all_printed, p.written ∙ sym all_memory)
 
-    pub printed-whole : (r : Printed) (after : List ℕ)
+    pub printed-whole : (r : Result ℕ Refusal) (after : List ℕ)
         → r ≡ printed room bytes out
         → after ≡ printed_memory room bytes out
         → Whole bytes r after
@@ -58,9 +59,11 @@ module _ (room : ℕ) (bytes out : List ℕ) where
         rw (e ∙ all_printed, m ∙ all_memory)
         (record {
           done = refl;
-          inside = omega (arith, length-append bytes rest);
-          told = take_at bytes rest (length bytes) refl;
+          inside = λ used u. let n : used ≡ length bytes = cc in omega (arith, length-append bytes rest);
+          told = λ used u. let n : length bytes ≡ used = cc in take_at bytes rest used n;
         })
+
+pub ruleset all_or_none = (none_printed, none_memory, all_printed, all_memory)
 
 -- The line of a word is at most one more than the bytes before it.
 line-most : (m : Mode) (line : ℕ) (text : List ℕ) → bad_line_from m line text ≤ line + length text

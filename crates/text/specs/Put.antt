@@ -1,6 +1,7 @@
 -- Bytes put into memory at a place: the place behind them, and the memory after.
-use Rattle.std.specs.Prelude.{ℕ, suc, ◌+◌, ◌≤◌, ◌<◌, List, [], ◌++◌, ◌≡◌, length, get_or, set, drop}
-use Rattle.std.proofs.Common.{ap, sym, ◌∙◌, arith, add-one, length-append, drop-cons}
+use Rattle.std.specs.Prelude.{ℕ, suc, ◌+◌, ◌-◌, ◌≤◌, ◌<◌, List, [], ◌++◌, ◌≡◌, refl, length, take, get_or, set, drop}
+use Rattle.std.proofs.Common.{ap, sym, ◌∙◌, append_assoc, arith, add-one, length-append, drop-cons}
+use borrow.Rule.Slice.PartMut.{put_mid, Post-is}
 use Rattle.number.specs.Number.{splice}
 use Rattle.number.specs.Splice.{splice-step, splice_none, splice_then}
 
@@ -21,6 +22,16 @@ put_then {out} {at} {bs} {cs} h p q =
     record {
       place = omega (arith, p.place, q.place, length-append bs cs);
       written = q.written ∙ rw (p.written, p.place) (splice_then out at bs cs h);
+    }
+
+-- bytes that a part of the memory is made a copy of
+pub put_copied : (out bytes copy : List ℕ) (at : ℕ) → copy ≡ bytes
+    → Put out at bytes (at + length bytes) (put_mid at (at + length bytes - at) out copy)
+unfolding splice
+put_copied out bytes copy at e =
+    record {
+      place = refl;
+      written = rw (e, Post-is at (at + length bytes) out (omega arith)) (sym (append_assoc (take at out) bytes _));
     }
 
 -- one byte more of those that are put from a place on

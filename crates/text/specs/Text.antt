@@ -1,6 +1,6 @@
 -- A sheet typed as text: "numbers in decimal, spaces, one record a line, `#` starts a comment". Where a line ends matters only to
 -- a comment and to the line number of a word that is no number: so a record may also go over several lines.
-use Rattle.std.specs.Prelude.{ℕ, ◌+◌, ◌-◌, ◌*◌, Bool, true, false, List, [], ◌∷◌, ◌++◌, length}
+use Rattle.std.specs.Prelude.{ℕ, ◌+◌, ◌-◌, ◌*◌, Bool, true, false, List, [], ◌∷◌, ◌++◌, length, Result, Ok, Err}
 use Rattle.number.specs.Number.{limit32, encode, splice}
 use Rattle.session.specs.Table.{pick}
 use Rattle.rules.specs.Formula.{choose, Formula.◌≐◌, Formula.◌≼◌, Formula.◌and◌, Formula.◌or◌}
@@ -8,8 +8,8 @@ use Rattle.text.specs.declared.Kind.{Kind}
 use Rattle.text.specs.declared.Kind.TheVariants.{Newline, Blank, Hash, Digit, Other}
 use Rattle.text.specs.declared.Mode.{Mode}
 use Rattle.text.specs.declared.Mode.TheVariants.{Between, Word, Comment, Bad}
-use Rattle.text.specs.declared.Typed.{Typed}
-use Rattle.text.specs.declared.Typed.TheVariants.{Sheet, BadLine, NoRoom}
+use Rattle.text.specs.declared.Untyped.{Untyped}
+use Rattle.text.specs.declared.Untyped.TheVariants.{BadLine, NoRoom}
 
 abbrev pub newline : ℕ
 newline = 10
@@ -101,9 +101,9 @@ unfoldable pub given {ℓ} : {A : Type ℓ} → List ℕ → List ℕ → A → 
 given text out none bad good =
     choose (length text ≼ length out) (choose (bad_line text ≐ 0) good (bad (bad_line text))) none
 
-unfoldable pub answer : List ℕ → List ℕ → Typed
+unfoldable pub answer : List ℕ → List ℕ → Result ℕ Untyped
 unfolding given
-answer text out = given text out NoRoom BadLine (Sheet (length (sheet_of text)))
+answer text out = given text out (Err NoRoom) (λ line. Err (BadLine line)) (Ok (length (sheet_of text)))
 
 unfoldable pub memory : List ℕ → List ℕ → List ℕ
 unfolding given

@@ -1,5 +1,5 @@
 -- What a byte, a word and a text give, case by case and step by step.
-use Rattle.std.specs.Prelude.{ℕ, ◌+◌, ◌-◌, ◌*◌, ◌≤◌, ◌<◌, true, false, ◌⊎◌, List, [], ◌∷◌, ◌++◌, ◌≡◌, refl, drop, get_or}
+use Rattle.std.specs.Prelude.{ℕ, ◌+◌, ◌-◌, ◌*◌, ◌≤◌, ◌<◌, true, false, ◌⊎◌, List, [], ◌∷◌, ◌++◌, ◌≡◌, refl, drop, get_or, Result, Ok, Err}
 use Rattle.std.proofs.Common.{⊎_elim, append_assoc, append-nil, ap, sym, ◌∙◌, arith, add-one, length-append, drop_of_length-le}
 use Rattle.std.proofs.Math.ListN.{length}
 use Rattle.std.proofs.Math.Seq.{drop-cons}
@@ -11,9 +11,9 @@ use Rattle.text.specs.Text.{kind_of, longer, after, is_bad, is_word, ended, numb
 use Rattle.text.specs.Text.{bad_line, encode_all, sheet_of, given, answer, memory}
 use Rattle.text.specs.declared.Kind.TheVariants.{Newline, Blank, Hash, Digit, Other}
 use Rattle.text.specs.declared.Mode.{Mode}
-use Rattle.text.specs.declared.Mode.TheVariants.{Between, Word, Bad}
-use Rattle.text.specs.declared.Typed.{Typed}
-use Rattle.text.specs.declared.Typed.TheVariants.{Sheet, BadLine, NoRoom}
+use Rattle.text.specs.declared.Mode.TheVariants.{Between, Word, Comment, Bad}
+use Rattle.text.specs.declared.Untyped.{Untyped}
+use Rattle.text.specs.declared.Untyped.TheVariants.{BadLine, NoRoom}
 
 -- A byte.
 pub kind_newline : (b : ℕ) → b ≡ 10 → kind_of b ≡ Newline
@@ -55,6 +55,8 @@ kind_digit b l h =
 pub kind_other : (b : ℕ) → Plain b → ((48 ≤ b) × (b ≤ 57) → ⊥) → kind_of b ≡ Other
 kind_other b p n = plain b p ∙ choose_no (48 ≼ b and b ≼ 57) _ _ n
 
+pub ruleset kinds = (kind_newline, kind_blank, kind_hash, kind_digit, kind_other)
+
 pub longer-within : (v d : ℕ) → v * 10 + d ≤ limit32 → longer v d ≡ Word (v * 10 + d)
 unfolding longer
 longer-within v d h = choose_yes (v * 10 + d ≼ limit32) _ _ h
@@ -62,6 +64,8 @@ longer-within v d h = choose_yes (v * 10 + d ≼ limit32) _ _ h
 pub longer-above : (v d : ℕ) → limit32 < v * 10 + d → longer v d ≡ Bad
 unfolding longer
 longer-above v d h = choose_no (v * 10 + d ≼ limit32) _ _ (λ l. omega arith)
+
+pub ruleset longer_or_bad = (longer-within, longer-above)
 
 -- The bytes of numbers.
 pub encode_all_none : encode_all [] ≡ []
@@ -90,6 +94,28 @@ ended_on v m e = rw e
 pub ended_word : (v : ℕ) (m : Mode) → is_word m ≡ false → ended (Word v) m ≡ v ∷ []
 unfolding ended
 ended_word v m e = rw e
+
+-- What is no word ends none, and what is not `Bad` is not bad.
+pub ended_none : (m then : Mode) → ((v : ℕ) → m ≡ Word v → ⊥) → ended m then ≡ []
+unfolding ended
+ended_none Between then n = refl
+ended_none (Word v) then n = absurd (n v refl)
+ended_none Comment then n = refl
+ended_none Bad then n = refl
+
+pub not_word : (m : Mode) → ((v : ℕ) → m ≡ Word v → ⊥) → is_word m ≡ false
+unfolding is_word
+not_word Between n = refl
+not_word (Word v) n = absurd (n v refl)
+not_word Comment n = refl
+not_word Bad n = refl
+
+pub not_bad : (m : Mode) → (m ≡ Bad → ⊥) → is_bad m ≡ false
+unfolding is_bad
+not_bad Between n = refl
+not_bad (Word v) n = refl
+not_bad Comment n = refl
+not_bad Bad n = absurd (n refl)
 
 -- One byte more.
 module _ (text : List ℕ) (m : Mode) (i : ℕ) (h : i < length text) where
@@ -152,7 +178,7 @@ bad_start text = refl
 -- What a text gives.
 module _ (text out : List ℕ) where
   module _ (short : length out < length text) where
-    pub short_answer : answer text out ≡ NoRoom
+    pub short_answer : answer text out ≡ Err NoRoom
     unfolding answer given
     short_answer = choose_no (length text ≼ length out) _ _ (λ l. omega arith)
 
@@ -161,7 +187,7 @@ module _ (text out : List ℕ) where
     short_memory = choose_no (length text ≼ length out) _ _ (λ l. omega arith)
 
   module _ (room : length text ≤ length out) where
-    pub bad_answer : 0 < bad_line text → answer text out ≡ BadLine (bad_line text)
+    pub bad_answer : 0 < bad_line text → answer text out ≡ Err (BadLine (bad_line text))
     unfolding answer given
     bad_answer h = choose_yes (length text ≼ length out) _ _ room ∙ choose_no (bad_line text ≐ 0) _ _ (λ e. omega arith)
 
@@ -169,7 +195,7 @@ module _ (text out : List ℕ) where
     unfolding memory given
     bad_memory h = choose_yes (length text ≼ length out) _ _ room ∙ choose_no (bad_line text ≐ 0) _ _ (λ e. omega arith)
 
-    pub good_answer : bad_line text ≡ 0 → answer text out ≡ Sheet (length (sheet_of text))
+    pub good_answer : bad_line text ≡ 0 → answer text out ≡ Ok (length (sheet_of text))
     unfolding answer given
     good_answer e = choose_yes (length text ≼ length out) _ _ room ∙ choose_yes (bad_line text ≐ 0) _ _ e
 
@@ -177,11 +203,13 @@ module _ (text out : List ℕ) where
     unfolding memory given
     good_memory e = choose_yes (length text ≼ length out) _ _ room ∙ choose_yes (bad_line text ≐ 0) _ _ e
 
+pub ruleset what_is_given = (short_answer, short_memory, bad_answer, bad_memory, good_answer, good_memory)
+
 -- What each answer says of the text and of the memory.
-abbrev pub Says : List ℕ → List ℕ → Typed → Type 0
-Says text out (Sheet n) = (bad_line text ≡ 0) × (n ≡ length (sheet_of text)) × (memory text out ≡ splice out 0 (sheet_of text))
-Says text out (BadLine line) = (0 < line) × (line ≡ bad_line text) × (memory text out ≡ out)
-Says text out NoRoom = length out < length text
+abbrev pub Says : List ℕ → List ℕ → Result ℕ Untyped → Type 0
+Says text out (Ok n) = (bad_line text ≡ 0) × (n ≡ length (sheet_of text)) × (memory text out ≡ splice out 0 (sheet_of text))
+Says text out (Err (BadLine line)) = (0 < line) × (line ≡ bad_line text) × (memory text out ≡ out)
+Says text out (Err NoRoom) = length out < length text
 
 pub says : (text out : List ℕ) → Says text out (answer text out)
 says text out = go (decide (length text ≼ length out)) (decide (bad_line text ≐ 0))

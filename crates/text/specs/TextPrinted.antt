@@ -1,16 +1,16 @@
 -- What the program `text_to_sheet` prints: every byte of it.
-use Rattle.std.specs.Prelude.{ℕ, ◌+◌, List, [], ◌∷◌, ◌++◌, length}
+use Rattle.std.specs.Prelude.{ℕ, ◌+◌, List, [], ◌∷◌, ◌++◌, length, Result, Ok, Err}
 use Rattle.number.specs.Number.{splice}
 use Rattle.decimal.specs.Decimal.{decimal}
 use Rattle.rules.specs.Formula.{choose, Formula.◌≐◌, Formula.◌≼◌}
 use Rattle.text.specs.Text.{newline, bad_line, sheet_of}
-use Rattle.text.specs.declared.printed.Printed.{Printed}
+use Rattle.rules.specs.declared.refusals.Refusal.{Refusal}
+use Rattle.rules.specs.declared.refusals.Refusal.TheVariants.{NoRoom}
 
 -- Bytes to be printed, put at the start of lent memory which has the room asked for, and how many they are. Under check 1, where
 -- the memory is too short, refusal 1, and the memory is as it was.
-unfoldable pub printed : ℕ → List ℕ → List ℕ → Printed
-printed room bytes out =
-    choose (room ≼ length out) (record { refused = 0; used = length bytes }) (record { refused = 1; used = 0 })
+unfoldable pub printed : ℕ → List ℕ → List ℕ → Result ℕ Refusal
+printed room bytes out = choose (room ≼ length out) (Ok (length bytes)) (Err NoRoom)
 
 unfoldable pub printed_memory : ℕ → List ℕ → List ℕ → List ℕ
 printed_memory room bytes out = choose (room ≼ length out) (splice out 0 bytes) out

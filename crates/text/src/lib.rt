@@ -1,19 +1,19 @@
 #![tactic(auto)]
 
 // A sheet typed as text: numbers in decimal, apart by blanks, and `#` starts a comment to the end of its line.
-ghost use Rattle.std.specs.Prelude.{◌≡◌, ◌+◌, ◌≤◌, length};
-ghost use Rattle.number.specs.Number.{encode, splice};
-ghost use Rattle.text.specs.Text.{kind_of, longer, after_word, after_comment, after, is_bad, is_word, ended};
+ghost use Rattle.std.specs.Prelude.{◌≡◌, ◌+◌, ◌≤◌, OnSome, length, unwrap_or};
+ghost use Rattle.number.specs.Number.{splice};
+ghost use Rattle.text.specs.Text.{kind_of, longer, after_word, after_comment, after, ended};
 ghost use Rattle.text.specs.Text.{encode_all, sheet_of, bad_line, answer, memory};
 
-use number::{LIMIT_32, Written};
+use number::LIMIT_32;
 
 mod printed;
 
-pub use printed::{Printed, put_printed, write_bytes};
+pub use printed::{put_printed, write_bytes};
 
 // What a byte is to a reader of text.
-#[derive(Clone, Copy)]
+#[derive(Clone, Copy, Debug, PartialEq, Eq)]
 pub enum Kind {
     Newline,
     Blank,
@@ -24,7 +24,7 @@ pub enum Kind {
 
 // Where a reader of text stands: between words, in a word whose digits so far have this value, in a comment, or at a word that
 // is no number or is above the limit.
-#[derive(Clone, Copy)]
+#[derive(Clone, Copy, Debug, PartialEq, Eq)]
 pub enum Mode {
     Between,
     Word(u64),
@@ -32,71 +32,47 @@ pub enum Mode {
     Bad,
 }
 
-// What a text gives: the length of its sheet, the line (from 1) of the first word that is no number or is above the limit, or
-// that the memory lent is shorter than the text.
-#[derive(Clone, Copy)]
-pub enum Typed {
-    Sheet(usize),
+// Why a text gives no sheet: the line (from 1) of the first word that is no number or is above the limit, or that the memory lent is
+// shorter than the text.
+#[derive(Clone, Copy, Debug, PartialEq, Eq)]
+pub enum Untyped {
     BadLine(u64),
     NoRoom,
 }
 
-// Turns text into a sheet at the start of lent memory, which must be as long as the text. Without a sheet no byte is written.
-pub fn to_sheet(text: &[u8], out: &mut [u8]) -> Typed
+// Turns text into a sheet at the start of lent memory, which must be as long as the text, and tells its length. Without a sheet no
+// byte is written.
+#[tactic(auto, using(crate::specs::TextLaws::what_is_given))]
+pub fn to_sheet(text: &[u8], out: &mut [u8]) -> Result<usize, Untyped>
     ensures answer { result ≡ answer text.now out.old }
     ensures bytes { out.new ≡ memory text.now out.old }
 {
     if out.len() < text.len() {
-        return Typed::NoRoom;
+        return Err(Untyped::NoRoom);
     }
-    let line = bad_line(text);
-    if 0 < line {
-        return Typed::BadLine(line);
+    if let Some(line) = bad_line(text) {
+        return Err(Untyped::BadLine(line));
     }
-    Typed::Sheet(write_numbers(text, out))
+    Ok(write_numbers(text, out))
 }
 
-// The line of the first word that is no number or is above the limit, 0 if there is none.
-fn bad_line(text: &[u8]) -> u64
-    ensures { result ≡ bad_line text.now }
+// The line of the first word that is no number or is above the limit.
+fn bad_line(text: &[u8]) -> Option<u64>
+    ensures told { unwrap_or result 0 ≡ bad_line text.now }
+    ensures from_one { OnSome result (1 ≤ bad_line text.now) }
 {
     let mut mode = Mode::Between;
     let mut line: u64 = 1;
-    let mut i: usize = 0;
-    while i < text.len() {
-        let b = text[i];
+    for &b in text {
         mode = next(mode, b);
-        if is_bad(mode) {
-            return line;
+        if mode == Mode::Bad {
+            return Some(line);
         }
         if b == b'\n' {
             line += 1;
         }
-        i += 1;
     }
-    0
-}
-
-fn is_bad(mode: Mode) -> bool
-    ensures { result ≡ is_bad mode }
-{
-    match mode {
-        Mode::Between => false,
-        Mode::Word(_) => false,
-        Mode::Comment => false,
-        Mode::Bad => true,
-    }
-}
-
-fn is_word(mode: Mode) -> bool
-    ensures { result ≡ is_word mode }
-{
-    match mode {
-        Mode::Between => false,
-        Mode::Word(_) => true,
-        Mode::Comment => false,
-        Mode::Bad => false,
-    }
+    None
 }
 
 // Writes the numbers of a text and answers how many bytes they take. Internal: the caller has shown that there is room.
@@ -106,13 +82,11 @@ fn write_numbers(text: &[u8], out: &mut [u8]) -> usize
     ensures bytes { out.new ≡ splice out.old 0 (sheet_of text.now) }
 {
     let mut mode = Mode::Between;
-    let mut used: usize = 0;
-    let mut i: usize = 0;
-    while i < text.len() {
-        let then = next(mode, text[i]);
+    let mut used = 0;
+    for &b in text {
+        let then = next(mode, b);
         used = write_ended(mode, then, out, used);
         mode = then;
-        i += 1;
     }
     write_ended(mode, Mode::Between, out, used)
 }
@@ -123,33 +97,17 @@ fn write_ended(mode: Mode, then: Mode, out: &mut [u8], used: usize) -> usize
     ensures answer { result ≡ used + length (encode_all (ended mode then)) }
     ensures bytes { out.new ≡ splice out.old used (encode_all (ended mode then)) }
 {
-    match mode {
-        Mode::Word(v) => {
-            if is_word(then) {
-                used
-            } else {
-                write_number(v, out, used)
-            }
-        }
-        Mode::Between => used,
-        Mode::Comment => used,
-        Mode::Bad => used,
+    let Mode::Word(v) = mode else {
+        return used;
+    };
+    if matches!(then, Mode::Word(_)) {
+        return used;
     }
-}
-
-// Writes a number for which there is room, and answers the place behind it.
-fn write_number(v: u64, out: &mut [u8], at: usize) -> usize
-    requires { at + length (encode v) ≤ length out.old }
-    ensures answer { result ≡ at + length (encode v) }
-    ensures bytes { out.new ≡ splice out.old at (encode v) }
-{
-    match number::write(v, out, at) {
-        Written::Used(behind) => behind,
-        Written::NoRoom => at,
-    }
+    number::write_number(v, out, used)
 }
 
 // Where a reader stands after a byte.
+#[tactic(auto, unfolding(crate::specs::Text::after))]
 fn next(mode: Mode, b: u8) -> Mode
     ensures { result ≡ after mode b }
 {
@@ -161,6 +119,7 @@ fn next(mode: Mode, b: u8) -> Mode
     }
 }
 
+#[tactic(auto, unfolding(crate::specs::Text::after_word))]
 fn next_in_word(v: u64, b: u8) -> Mode
     ensures { result ≡ after_word v (kind_of b) }
 {
@@ -173,6 +132,7 @@ fn next_in_word(v: u64, b: u8) -> Mode
     }
 }
 
+#[tactic(auto, unfolding(crate::specs::Text::after_comment))]
 fn next_in_comment(b: u8) -> Mode
     ensures { result ≡ after_comment (kind_of b) }
 {
@@ -185,23 +145,20 @@ fn next_in_comment(b: u8) -> Mode
     }
 }
 
-// A word with one digit more. The tenth of the limit is tested first, so that the value never wraps.
+// A word with one digit more. A sum that saturates is above the limit too.
+#[tactic(auto, using(crate::specs::TextLaws::longer_or_bad))]
 fn with_digit(v: u64, d: u64) -> Mode
     ensures { result ≡ longer v d }
 {
-    if LIMIT_32 / 10 < v {
-        return Mode::Bad;
+    let value = v.saturating_mul(10).saturating_add(d);
+    if value <= LIMIT_32 {
+        Mode::Word(value)
+    } else {
+        Mode::Bad
     }
-    if LIMIT_32 < d {
-        return Mode::Bad;
-    }
-    let value = v * 10 + d;
-    if LIMIT_32 < value {
-        return Mode::Bad;
-    }
-    Mode::Word(value)
 }
 
+#[tactic(auto, using(crate::specs::TextLaws::kinds))]
 fn kind_of(b: u8) -> Kind
     ensures { result ≡ kind_of b }
 {
@@ -209,7 +166,7 @@ fn kind_of(b: u8) -> Kind
         b'\n' => Kind::Newline,
         b'\t' | b'\r' | b' ' => Kind::Blank,
         b'#' => Kind::Hash,
-        b'0'..=b'9' => Kind::Digit((b - b'0') as u64),
+        b'0'..=b'9' => Kind::Digit(u64::from(b - b'0')),
         _ => Kind::Other,
     }
 }

@@ -6,9 +6,8 @@ use Rattle.rules.specs.declared.Operation.{Operation}
 use Rattle.rules.specs.Formula.{Holds, test, not, Formula.each, Formula.◌≐◌, Formula.◌≼◌}
 use Rattle.rules.specs.FormulaLaws.{Case, decide, passed, choose_yes, choose_no, Case.it_does, Case.it_does_not}
 use Rattle.rules.specs.Step.{arg, last_code}
-use Rattle.record.specs.declared.Place.TheVariants.{Behind, Refused}
+use Rattle.record.specs.RecordReading.{Behind, Refused, placed, edition_of, record_at}
 use Rattle.rules.specs.Arity.{is_edition, field_count, name_of}
-use Rattle.record.specs.RecordReading.{placed, edition_of, record_at}
 use Rattle.record.specs.Writing.{field_bytes, record_bytes, is_recordable, within}
 use Rattle.record.specs.RecordRoundTrip.{record_forward}
 use Rattle.record.specs.Sheet.{Contents, stopped, records_from, records_bytes, contents, head_at, head_refusal, first_record}

@@ -7,31 +7,18 @@ ghost use Rattle.turns.specs.MemoryPlaces.{least};
 
 // Of two turned-in sheets, the earlier in the file first, the one that supersedes, as the lender's own bytes: that with the higher
 // turn, and of equal turns the later.
+#[tactic(auto, using(rules::specs::FormulaLaws::choose_yes, rules::specs::FormulaLaws::choose_no))]
 pub fn superseding<'a>(earlier: &'a [u8], past: u64, later: &'a [u8], turn: u64) -> &'a [u8]
     ensures { result ≡ choose (past ≼ turn) later.entry earlier.entry }
 {
-    if past <= turn {
-        return later;
-    }
-    earlier
-}
-
-pub fn least_of(a: usize, b: usize) -> usize
-    ensures told { result ≡ least a b }
-    ensures most { result ≤ b }
-{
-    if a <= b {
-        return a;
-    }
-    b
+    if past <= turn { later } else { earlier }
 }
 
 // What a memory holds from a place on.
 fn rest_of(room: &[u8], place: usize) -> &[u8]
     ensures { result.now ≡ drop place room.now }
 {
-    let from = least_of(place, room.len());
-    &room[from..]
+    room.get(place..).unwrap_or(&[])
 }
 
 // Where the one that supersedes begins, of two sheets in one memory: what a memory holds from a place on tells by its length which
@@ -49,6 +36,5 @@ pub fn sheet_in(room: &[u8], place: usize, length: u64) -> &[u8]
     ensures { result.now ≡ take length (drop place room.now) }
 {
     let rest = rest_of(room, place);
-    let end = least_of(length as usize, rest.len());
-    &rest[..end]
+    rest.get(..length as usize).unwrap_or(rest)
 }

@@ -14,7 +14,7 @@ returns-then-c-eq0 t c =
     let s = read c.args.s.now in
     let h = c.args.h in
     let e : c.get-c.result ≡ s TaskCreator h = c.get-c.ensures in
-    above_none s p.2 c.args.marks.now h (sym e ∙ c.if-c-eq0.true)
+    above_none s p.1 c.args.marks.now h (sym e ∙ c.if-c-eq0.true)
 
 pub returns-then-marks-c-eq1 : goal.returns-then-marks-c-eq1
 returns-then-marks-c-eq1 t c =
@@ -23,7 +23,7 @@ returns-then-marks-c-eq1 t c =
     let h = c.args.h in
     let e : c.get-c.result ≡ s TaskCreator h = c.get-c.ensures in
     let some : 1 ≤ s TaskCreator h = omega (arith, e, c.if-c-eq0.false) in
-    above-met s p.2 c.args.marks.now h p.1 p.3 p.5 some (rw e at c.if-marks-c-eq1.true)
+    above-met s p.1 c.args.marks.now h p.0 p.2 p.3 some (rw e at c.if-marks-c-eq1.true)
 
 pub mark_above-requires : goal.mark_above-requires
 mark_above-requires t c =
@@ -32,7 +32,7 @@ mark_above-requires t c =
     let h = c.args.h in
     let e : c.get-c.result ≡ s TaskCreator h = c.get-c.ensures in
     let some : 1 ≤ s TaskCreator h = omega (arith, e, c.if-c-eq0.false) in
-    let below : s TaskCreator h < h = p.2 h p.3 some in
+    let below : s TaskCreator h < h = p.1 h p.2 some in
     let m = c.args.marks.now in
     let q : h ≡ t = c.decreases in
     rw e (
@@ -40,10 +40,8 @@ mark_above-requires t c =
       (
         p.0,
         p.1,
-        p.2,
-        omega (arith, below, p.3),
-        length-set m (s TaskCreator h) 1 ∙ p.4,
-        closed-climb s p.2 m h p.1 p.3 p.4 p.5 some,
+        omega (arith, below, p.2),
+        closed-climb s p.1 m h p.0 p.2 (omega arith) p.3 some,
       ),
     )
 
@@ -54,5 +52,5 @@ returns t c =
     let h = c.args.h in
     let e : c.get-c.result ≡ s TaskCreator h = c.get-c.ensures in
     let some : 1 ≤ s TaskCreator h = omega (arith, e, c.if-c-eq0.false) in
-    above-climb s p.2 c.args.marks.now c.mark_above.new.marks h p.1 p.3 p.4 some
+    above-climb s p.1 c.args.marks.now c.mark_above.new.marks h p.0 p.2 (omega arith) some
     (simp length-set) (rw e at c.mark_above.ensures)

@@ -1,9 +1,8 @@
 -- `ancestors::mark_all` meets its contract: before each turn the marks are those above the live tasks below that handle.
-use Prim.Native.Nat.{◌≤◌, ◌+◌, ◌-◌}
+use Prim.Native.Nat.{◌≤◌}
 use mathlib.Core.Path.{◌≡◌}
-use lib.ListN.{length}
-use Rattle.session.specs.Names.{most_objects, object_places}
-use Rattle.session.specs.Table.{read, words}
+use Rattle.session.specs.Names.{most_objects}
+use Rattle.session.specs.Table.{read}
 use Rattle.session.specs.declared.Field.TheVariants.{Objects}
 use Rattle.laws.specs.Under.{Falls}
 use Rattle.ancestors.specs.Above.{Shows, busy_below}
@@ -11,8 +10,5 @@ use Rattle.ancestors.proofs.mark_all.Given as goal
 
 abbrev pub invariant-loop-h : goal.invariant-loop-h
 invariant-loop-h l =
-    (l.h ≤ l.n + 1) × (l.n ≡ read l.s Objects 0) × (l.n ≤ most_objects) × (words ≤ length l.s) × Falls (read l.s)
-    × (length l.marks ≡ object_places) × (length l.initial.marks ≡ object_places) × Shows l.marks (busy_below (read l.s) l.h)
-
-abbrev pub decreases-loop-h : goal.decreases-loop-h
-decreases-loop-h l = l.n + 1 - l.h
+    (l.n ≡ read l.s Objects 0) × (l.n ≤ most_objects) × Falls (read l.s)
+    × Shows l.marks (busy_below (read l.s) l.h)

@@ -2,6 +2,7 @@
 use Rattle.std.proofs.Common.{ℕ, arith, rules, subst, sym, ◌∙◌}
 use lib.ListN.{replicate, length-replicate}
 use Rattle.session.specs.Table.{words}
+use Rattle.session.specs.FreshLaws.{leaves-written}
 use Rattle.sheet.specs.Printing.{ready-fresh}
 use Rattle.class.specs.declared.Report.{Report}
 use Rattle.class.specs.Steps.{begun}
@@ -10,14 +11,15 @@ use Rattle.class_input.specs.Ahead.{Ahead, ahead_begun}
 use Rattle.class_report.specs.ProgramStepped.{step_half, stepped_ahead}
 use Rattle.class_report.proofs.run.Goals as goal
 
-pub loop-turns-init : goal.loop-turns-init
+pub loop-init : goal.loop-init
 unfolding begun
-loop-turns-init g c =
+loop-init g c =
     let m = length-replicate {A = ℕ} words 0 in
     let l = length-replicate {A = ℕ} 16384 0 in
     record {
-      ready = ready-fresh (replicate words 0) _ (replicate 16384 0) (omega arith) (omega arith) c.write_fresh.ensures.memory;
-      memory_long = c.write_fresh.auto.s ∙ m;
+      ready = ready-fresh (replicate words 0) _ (replicate 16384 0) (omega arith) (omega arith)
+          (leaves-written (omega arith) c.put_fresh.ensures);
+      memory_long = c.put_fresh.ensures.same_length ∙ m;
       room_long = length-replicate {A = ℕ} 65536 0;
       lines_long = l;
       line_free = omega arith;
@@ -27,9 +29,9 @@ loop-turns-init g c =
       ahead = subst (λ (r : Report). Ahead r 0) (sym c.begin-report.ensures) ahead_begun;
     }
 
-pub loop-turns-preserved : goal.loop-turns-preserved
-loop-turns-preserved g c =
-    let i = c.loop-turns.invariant in
+pub loop-preserved : goal.loop-preserved
+loop-preserved g c =
+    let i = c.loop.invariant in
     let r = c.in_ok-handed.ensures.given.0 in
     let e = c.gather-step.ensures.next in
     record {

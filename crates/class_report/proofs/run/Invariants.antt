@@ -8,8 +8,8 @@ use Rattle.class_input.specs.Ahead.{Ahead}
 use Rattle.class_input.specs.Window.{Inside, size_of}
 use Rattle.class_report.proofs.run.Given as goal
 
-abbrev pub invariant-loop-turns : goal.invariant-loop-turns
-invariant-loop-turns g l = record {
+abbrev pub invariant-loop : goal.invariant-loop
+invariant-loop g l = record {
   ready : Ready l.memory l.lines;
   memory_long : length l.memory ≡ words;
   room_long : length l.room ≡ 65536;
@@ -20,6 +20,3 @@ invariant-loop-turns g l = record {
   inside : Inside l.window l.input;
   ahead : Ahead l.report (size_of l.window);
 }
-
-abbrev pub decreases-loop-turns : goal.decreases-loop-turns
-decreases-loop-turns g l = l.turns

@@ -5,9 +5,4 @@ use Rattle.class_words.proofs.report_of.Goals as goal
 
 pub returns : goal.returns
 unfolding report_of
-returns c =
-    rw (
-      c.stage_of-stage.ensures,
-      c.pending_of-pending.ensures,
-    )
-    refl
+returns c = rw (c.stage_of.ensures, c.pending_of.ensures) refl

@@ -1,22 +1,10 @@
--- `engine::apply_sound` meets its contract: by the code one of three callees plays the operation, and what each plays is one step
--- of a sound session (`replied`).
-use Rattle.engine.specs.Played.{replied}
+-- `engine::apply_sound` meets its contract: what was played on the first words was played on the memory (`replied_first`).
+use Rattle.session.specs.First.{read_first}
+use Rattle.engine.specs.Played.{replied_first}
 use Rattle.engine.proofs.apply_sound.Goals as goal
 
-pub returns-then-code-lt5 : goal.returns-then-code-lt5
-returns-then-code-lt5 c =
-    let a = c.args in
-    replied a.memory.now _ _ a.op c.requires.1
-    c.make.ensures
-
-pub returns-then-code-lt9 : goal.returns-then-code-lt9
-returns-then-code-lt9 c =
-    let a = c.args in
-    replied a.memory.now _ _ a.op c.requires.1
-    c.call.ensures
+pub play-requires : goal.play-requires
+play-requires c = rw (c.in-Some.ensures.cases.same, read_first c.args.memory.now) c.requires.1
 
 pub returns : goal.returns
-returns c =
-    let a = c.args in
-    replied a.memory.now _ _ a.op c.requires.1
-    c.move_on.ensures
+returns c = replied_first c.args.memory.now _ _ c.args.op c.requires.0 (rw c.in-Some.ensures.cases.same at c.play.ensures)

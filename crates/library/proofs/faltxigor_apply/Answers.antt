@@ -1,4 +1,5 @@
 -- `library::faltxigor_apply` meets its contract: what `apply` answered, as two numbers (`called`).
+use Rattle.rules.specs.Answer.{answer_told}
 use Rattle.library.specs.Called.{operation, called}
 use Rattle.library.proofs.faltxigor_apply.Goals as goal
 
@@ -8,5 +9,5 @@ returns c =
     let call = c.apply in
     let a = c.args in
     rw (t.refused, t.made)
-    (called a.memory.now call.new.memory (operation a.code a.f0 a.f1 a.f2 a.f3 a.f4) call.result
+    (called a.memory.now call.new.memory (operation a.code a.f0 a.f1 a.f2 a.f3 a.f4) (answer_told call.result)
     call.ensures)

@@ -3,10 +3,10 @@ use mathlib.Core.Path.{refl}
 use Rattle.rules.specs.Answer.{refused_of, made_of}
 use Rattle.library.proofs.tell.Goals as goal
 
-pub returns-in-Accepted : goal.returns-in-Accepted
+pub returns-in-Ok : goal.returns-in-Ok
 unfolding refused_of made_of
-returns-in-Accepted c = rw c.in-Accepted.is record { refused = refl; made = refl }
+returns-in-Ok c = rw c.in-Ok.is record { refused = refl; made = refl }
 
-pub returns-in-Refused : goal.returns-in-Refused
+pub returns-in-Err : goal.returns-in-Err
 unfolding refused_of made_of
-returns-in-Refused c = rw c.in-Refused.is record { refused = refl; made = refl }
+returns-in-Err c = rw c.in-Err.is record { refused = c.from.ensures; made = refl }

@@ -1,15 +1,21 @@
 -- `listing::field_count` meets its contract: the last edition knows a code asked for, so that `arity_of` has its number of fields.
-use mathlib.Core.Path.{sym, ◌∙◌}
-use Rattle.record.specs.RecordCases.{arity_known, arity_unknown}
-use Rattle.rules.specs.Arity.{fields_few, last_knows}
+use mathlib.Core.Path.{◌≡◌, refl, ◌∙◌}
+use Rattle.std.specs.Prelude.{ℕ, Some}
+use Rattle.rules.specs.Arity.{arity_of, knows, field_count, fields_few, last_knows, is_code}
+use Rattle.rules.specs.Formula.{Holds}
+use Rattle.rules.specs.FormulaLaws.{choose_yes}
+use Rattle.rules.specs.Step.{last_edition}
 use Rattle.listing.proofs.field_count.Goals as goal
 
-pub returns-in-Fields : goal.returns-in-Fields
-returns-in-Fields c =
-    let known = arity_known _ _ _ (sym c.arity_of.ensures ∙ c.in-Fields.is) in
-    record { count = known.1; five = rw known.1 (fields_few _ c.requires) }
+known : (code : ℕ) → Holds (is_code code) → arity_of last_edition code ≡ Some (field_count code)
+unfolding arity_of
+known code h = choose_yes (knows last_edition code) _ _ (last_knows code h)
 
-pub returns-in-Unknown : goal.returns-in-Unknown
-returns-in-Unknown c =
-    absurd (arity_unknown _ _ (sym c.arity_of.ensures ∙ c.in-Unknown.is)
-    (last_knows _ c.requires))
+pub unwrap-requires : goal.unwrap-requires
+unwrap-requires c = rw (c.arity_of.ensures ∙ known _ c.requires) refl
+
+pub returns : goal.returns
+returns c =
+    let k = known c.args.code c.requires in
+    let e : c.unwrap.result ≡ field_count c.args.code = cc in
+    record { count = e; five = rw e (fields_few _ c.requires) }

@@ -5,13 +5,6 @@ use Rattle.listing.specs.Listing.{field_text}
 use Rattle.listing.specs.ListingLaws.{field_length}
 use Rattle.listing.proofs.write_field.Goals as goal
 
-pub write_bytes-number-requires : goal.write_bytes-number-requires
-write_bytes-number-requires c = let a = c.args in omega (arith, field_length a.v)
-
-pub write-requires : goal.write-requires
-write-requires c =
-    let a = c.args in omega (arith, field_length a.v)
-
 pub returns : goal.returns
 unfolding field_text
 returns c =

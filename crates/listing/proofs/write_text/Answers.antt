@@ -6,9 +6,8 @@ use native.Mathlib.Omega.{arith}
 use lib.ListN.{length, length-append}
 use Rattle.number.specs.Number.{AreBytes}
 use Rattle.decimal.specs.Decimal.{decimal}
-use Rattle.record.specs.RecordReading.{edition_of}
+use Rattle.record.specs.RecordReading.{edition_of, place_told, Behind}
 use Rattle.record.specs.Sheet.{head_at, records_from}
-use Rattle.record.specs.declared.Place.TheVariants.{Behind}
 use Rattle.text.specs.Put.{put_then}
 use Rattle.listing.specs.Listing.{newline, records_text, text_of, room_for}
 use Rattle.listing.specs.ListingLaws.{text-refused, text-behind, text-length}
@@ -28,27 +27,27 @@ parts_fit sheet room first behind fits = omega (arith, text-length _ _ behind, f
 pub write_refusal-requires : goal.write_refusal-requires
 write_refusal-requires c =
     let fits = text_fits c.args.sheet.now c.args.out.now (λ i. omega (arith, c.type_inv.sheet i)) (omega arith) c.requires in
-    let e = text-refused _ _ (sym c.read_head.ensures ∙ c.in-Refused.is) in
+    let e = text-refused _ _ (sym c.read_head.ensures ∙ ap place_told c.in-Err.is) in
     omega (arith, ap length e)
 
 pub write-end-requires : goal.write-end-requires
 write-end-requires c =
     let fits = text_fits c.args.sheet.now c.args.out.now (λ i. omega (arith, c.type_inv.sheet i)) (omega arith) c.requires in
-    let behind = sym c.read_head.ensures ∙ c.in-Behind.is in
+    let behind = sym c.read_head.ensures ∙ ap place_told c.in-Ok.is in
     let parts = parts_fit _ _ _ behind fits in
     rw c.edition_of.ensures (omega (arith, parts))
 
 pub write_bytes-used-requires : goal.write_bytes-used-requires
 write_bytes-used-requires c =
     let fits = text_fits c.args.sheet.now c.args.out.now (λ i. omega (arith, c.type_inv.sheet i)) (omega arith) c.requires in
-    let behind = sym c.read_head.ensures ∙ c.in-Behind.is in
+    let behind = sym c.read_head.ensures ∙ ap place_told c.in-Ok.is in
     let parts = parts_fit _ _ _ behind fits in
     let p = rw c.edition_of.ensures at c.write-end.ensures.answer in
     omega (arith, p, parts)
 
 pub write_records-requires : goal.write_records-requires
 write_records-requires c =
-    let behind = sym c.read_head.ensures ∙ c.in-Behind.is in
+    let behind = sym c.read_head.ensures ∙ ap place_told c.in-Ok.is in
     let fits = text_fits c.args.sheet.now c.args.out.now (λ i. omega (arith, c.type_inv.sheet i)) (omega arith) c.requires in
     let parts = parts_fit _ _ _ behind fits in
     let p = rw c.edition_of.ensures at c.write-end.ensures.answer in
@@ -57,15 +56,15 @@ write_records-requires c =
       room = omega (arith, p, c.write_bytes-used.ensures.place, parts);
     }
 
-pub returns-in-Refused : goal.returns-in-Refused
-returns-in-Refused c =
+pub returns-in-Err : goal.returns-in-Err
+returns-in-Err c =
     let w = c.write_refusal.ensures in
-    let e = text-refused _ _ (sym c.read_head.ensures ∙ c.in-Refused.is) in
+    let e = text-refused _ _ (sym c.read_head.ensures ∙ ap place_told c.in-Err.is) in
     rw e w
 
-pub returns-in-Behind : goal.returns-in-Behind
-returns-in-Behind c =
-    let behind = sym c.read_head.ensures ∙ c.in-Behind.is in
+pub returns-in-Ok : goal.returns-in-Ok
+returns-in-Ok c =
+    let behind = sym c.read_head.ensures ∙ ap place_told c.in-Ok.is in
     let fits = text_fits c.args.sheet.now c.args.out.now (λ i. omega (arith, c.type_inv.sheet i)) (omega arith) c.requires in
     let parts = parts_fit _ _ _ behind fits in
     let e = c.edition_of.ensures in

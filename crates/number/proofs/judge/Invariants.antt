@@ -1,13 +1,6 @@
--- `number::judge` meets its contract: the sum is the value of the groups from i on, of a number in its shortest form.
-use mathlib.Core.Bool.{true}
-use mathlib.Core.Path.{◌≡◌}
-use Prim.Native.Nat.{◌≤◌}
-use lib.ListN.{length, drop}
-use Rattle.number.specs.Number.{value, shortest}
+-- `number::judge` meets its contract: the sum is the value of the groups behind the bytes that are left.
+use Rattle.number.proofs.Steps.{Summed}
 use Rattle.number.proofs.judge.Given as goal
 
-abbrev pub invariant-loop-i : goal.invariant-loop-i
-invariant-loop-i l = (l.i ≤ length l.number) × (l.v ≡ value (drop l.i l.number)) × (shortest l.number ≡ true)
-
-abbrev pub decreases-loop-i : goal.decreases-loop-i
-decreases-loop-i l = l.i
+abbrev pub invariant-loop-byte : goal.invariant-loop-byte
+invariant-loop-byte l = Summed l.number l.byte-iterator.iter.rest.now l.v

@@ -6,6 +6,7 @@ use Rattle.std.specs.Io.KnownBytes.{Appends, Consumes, IsAtEnd}
 use lib.ListN.{replicate, length-replicate}
 use Rattle.streams.specs.Fronts.{of_front}
 use Rattle.session.specs.Table.{words}
+use Rattle.session.specs.FreshLaws.{leaves-written}
 use Rattle.sheet.specs.Printing.{ready-fresh}
 use Rattle.sheet.specs.SheetPrinted.{output}
 use Rattle.ocr_sheet.proofs.run.Goals as goal
@@ -25,7 +26,7 @@ pub print-requires-clause-ready : goal.print-requires-clause-ready
 print-requires-clause-ready g c =
     let m = length-replicate {A = ℕ} words 0 in
     let n = length-replicate {A = ℕ} 16384 0 in
-    ready-fresh (replicate words 0) _ (replicate 16384 0) (omega arith) (omega arith) c.write_fresh.ensures.memory
+    ready-fresh (replicate words 0) _ (replicate 16384 0) (omega arith) (omega arith) (leaves-written (omega arith) c.put_fresh.ensures)
 
 pub returns : goal.returns
 returns g c =

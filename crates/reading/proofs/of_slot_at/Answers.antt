@@ -1,6 +1,5 @@
 -- `reading::of_slot_at` meets its contract: too high a handle or slot is past the field (`read_past`); else as `of_slot` answers.
 use Rattle.session.specs.TableLaws.{read_past}
-use borrow.Author.Rules.{rules}
 use mathlib.Core.Path.{sym}
 use native.Mathlib.Omega.{arith}
 use Rattle.reading.proofs.of_slot_at.Goals as goal

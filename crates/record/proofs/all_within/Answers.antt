@@ -1,18 +1,30 @@
--- `record::all_within` meets its contract: the first k fields are within the limit.
-use mathlib.Core.Path.{sym}
+-- `record::all_within` meets its contract: every field is within the limit, or one is not.
+use Prim.Native.Nat.{ℕ, ◌≤◌, ◌<◌}
+use mathlib.Core.Bool.{Bool, true, false}
+use mathlib.Core.List.{List}
+use mathlib.Core.Path.{◌≡◌, sym}
 use native.Mathlib.Omega.{arith}
-use borrow.Author.Count.{below_none, below_more}
+use borrow.Author.Rules.{rules}
+use borrow.Author.Tests.{tests}
+use lib.ListN.{length, get_or}
+use Rattle.std.specs.Bool.{MatchBool}
+use Rattle.std.specs.List.{AllWithin, HoldsAt}
+use Rattle.std.proofs.lemmas.Iterator.{cases_from_all, YieldsList-from_slice}
+use Rattle.number.specs.Number.{limit32}
+use Rattle.rules.specs.Formula.{test}
 use Rattle.rules.specs.FormulaLaws.{passes, fails}
+use Rattle.record.specs.Writing.{within}
 use Rattle.record.proofs.all_within.Goals as goal
 
-pub loop-k-init : goal.loop-k-init
-loop-k-init c = (omega arith, below_none _)
-
-pub returns-then-fields-k-gt-LIMIT_32 : goal.returns-then-fields-k-gt-LIMIT_32
-returns-then-fields-k-gt-LIMIT_32 c = sym (fails _ (λ h. (let l = h c.loop-k.k (omega arith) in omega arith)))
-
-pub loop-k-preserved : goal.loop-k-preserved
-loop-k-preserved c = (omega arith, below_more _ _ c.loop-k.invariant.1 (omega arith))
+tested : (r : Bool) (xs : List ℕ)
+    → MatchBool r (AllWithin (λ x. x ≤ limit32) xs 0 (length xs)) ((k : ℕ) × (k < length xs) × HoldsAt (λ x. limit32 < x) xs k)
+    → r ≡ test (within (length xs) (λ k. get_or xs k 0))
+tested true xs h = sym (passes _ (λ k l. h k 0 (omega arith) l))
+tested false xs h = sym (fails _ (λ all. omega (arith, all h.0 h.1, h.2 0)))
 
 pub returns : goal.returns
-returns c = sym (passes _ (λ j l. c.loop-k.invariant.1 j (omega arith)))
+returns c =
+    let xs = c.args.fields.now in
+    tested c.all.result xs
+    (cases_from_all _ _ _ (λ x. x ≤ limit32) (λ x. limit32 < x) c.all.ensures.ran (YieldsList-from_slice xs cc)
+    (λ x q k. search (rules, tests)) (λ x q k. search (rules, tests)))

@@ -3,14 +3,10 @@ use mathlib.Core.Path.{ap, sym, ◌∙◌}
 use Rattle.number.specs.Number.{value_of}
 use Rattle.record.proofs.edition_of.Goals as goal
 
-pub returns-in-CutShort : goal.returns-in-CutShort
+pub returns-in-Ok : goal.returns-in-Ok
 unfolding value_of
-returns-in-CutShort c = sym (ap value_of (sym c.read.ensures ∙ c.in-CutShort.is))
+returns-in-Ok c = sym (ap value_of (sym c.read.ensures ∙ c.in-Ok.is))
 
-pub returns-in-Bad : goal.returns-in-Bad
+pub returns-in-Err : goal.returns-in-Err
 unfolding value_of
-returns-in-Bad c = sym (ap value_of (sym c.read.ensures ∙ c.in-Bad.is))
-
-pub returns-in-Value : goal.returns-in-Value
-unfolding value_of
-returns-in-Value c = sym (ap value_of (sym c.read.ensures ∙ c.in-Value.is))
+returns-in-Err c = sym (ap value_of (sym c.read.ensures ∙ c.in-Err.is))

@@ -1,10 +1,10 @@
--- `record::read_fields` meets its contract: the first k fields are passed, and a bad one among them is remembered.
-use Prim.Native.Nat.{◌≤◌, ◌-◌}
-use Rattle.record.proofs.ReadSteps.{Passed}
+-- `record::read_fields` meets its contract: the first fields are passed, and a bad one among them is remembered.
+use mathlib.Core.Bool.{cond}
+use mathlib.Core.List.{◌++◌}
+use lib.ListN.{drop}
+use Rattle.record.proofs.ReadSteps.{Passed, blank}
 use Rattle.record.proofs.read_fields.Given as goal
 
-abbrev pub invariant-loop-k : goal.invariant-loop-k
-invariant-loop-k l = (l.k ≤ l.n) × Passed l.bytes l.first l.k l.fields l.refused l.next
-
-abbrev pub decreases-loop-k : goal.decreases-loop-k
-decreases-loop-k l = l.n - l.k
+abbrev pub invariant-loop-field : goal.invariant-loop-field
+invariant-loop-field l =
+    Passed l.bytes l.first l.field-index (l.field-items ++ drop l.n blank) (cond l.bad 4 0) l.next

@@ -1,7 +1,6 @@
 -- `session::clear_used` meets its contract: each round clears the used places of one field more.
 use mathlib.Core.Path.{◌≡◌, refl}
 use native.Mathlib.Omega.{arith}
-use borrow.Author.Rules.{rules}
 use lib.ListN.{length}
 use Rattle.session.specs.Names.{object_places, link_places}
 use Rattle.session.specs.Table.{fields}
@@ -11,58 +10,35 @@ use Rattle.session.proofs.clear_used.Goals as goal
 pub loop-k-init : goal.loop-k-init
 loop-k-init c =
     let a = c.args in
-    let p = c.requires in (
-      omega arith,
-      p.0,
-      p.1,
-      p.2,
-      c.places-used.ensures,
-      c.places-sizes.ensures,
-      refl,
-      refl,
-      wrote_uncleared a.s.now
-          a.handles a.links,
-    )
+    (c.requires.0, c.requires.1, c.places-used.ensures, c.places-sizes.ensures, refl, wrote_uncleared a.s.now a.handles a.links)
 
 pub clear_words-requires : goal.clear_words-requires
 clear_words-requires c =
     let l = c.loop-k in
     let i = l.invariant in
-    (search rules, rw i.4 (clears_inside _ _ l.k l.start i.2 i.3 (omega arith) i.7))
+    rw i.2 (clears_inside _ _ l.k l.start i.0 i.1 (omega arith) i.4)
 
 pub overflow_add-start : goal.overflow_add-start
 overflow_add-start c =
     let l = c.loop-k in
     let i = l.invariant in
-    rw i.5 (omega (
-      arith,
-      clears_inside object_places link_places l.k l.start (omega arith) (omega arith) (omega arith)
-          i.7,
-    ))
+    rw i.3 (omega (arith, clears_inside object_places link_places l.k l.start (omega arith) (omega arith) (omega arith) i.4))
 
 pub loop-k-preserved : goal.loop-k-preserved
 loop-k-preserved c =
-    let cleared = c.clear_words in
     let l = c.loop-k in
     let i = l.invariant in
     let a = c.args in (
-      omega arith,
+      i.0,
       i.1,
       i.2,
       i.3,
-      i.4,
-      i.5,
-      search rules,
-      rw i.5 (next_begins l.k l.start (omega arith) i.7),
-      wrote_cleared a.handles a.links l.k l.start i.2 i.3 (omega arith) i.7 i.8
-          (rw i.4 at cleared.ensures),
+      rw i.3 (next_begins l.k l.start (omega arith) i.4),
+      wrote_cleared a.handles a.links l.k l.start i.0 i.1 (omega arith) i.4 i.5 (rw i.2 at c.clear_words.ensures),
     )
-
-pub shape_of-s : goal.shape_of-s
-shape_of-s c = c.loop-k.invariant.6
 
 pub returns : goal.returns
 returns c =
     let l = c.loop-k in
     let n : l.k ≡ length fields = omega arith in
-    rw n at l.invariant.8
+    rw n at l.invariant.5

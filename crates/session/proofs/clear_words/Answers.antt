@@ -1,35 +1,21 @@
--- `session::clear_words` meets its contract: for each field that begins there, from i places swept to i + 1 (`wrote_swept`).
-use mathlib.Core.Path.{◌≡◌, refl}
+-- `session::clear_words` meets its contract: what was filled is zero at the places of whichever field begins there (`zeroed`).
+use Prim.Native.Nat.{ℕ, ◌+◌, ◌-◌}
+use mathlib.Core.Path.{◌≡◌, ◌∙◌, sym}
 use native.Mathlib.Omega.{arith}
-use lib.ListN.{length-set}
-use Rattle.session.specs.Table.{read}
-use Rattle.session.specs.TableLaws.{sweep_zero, wrote_none}
-use Rattle.session.specs.RenewLaws.{wrote_swept}
+use lib.ListN.{replicate}
+use borrow.Rule.Slice.PartMut.{mid_len}
+use Rattle.std.proofs.lemmas.List.{length-replicate}
+use Rattle.std.proofs.lemmas.Slice.{put_mid-paste}
+use Rattle.session.specs.RenewLaws.{zeroed}
 use Rattle.session.proofs.clear_words.Goals as goal
 
-pub loop-i-init : goal.loop-i-init
-loop-i-init c =
-    let ws = c.args.s.now in
-    (omega arith, c.requires.1, c.requires.0, refl, λ f e h. rw (sweep_zero (read ws) f (λ _. 0)) (wrote_none ws))
-
-pub loop-i-preserved : goal.loop-i-preserved
-loop-i-preserved c =
-    let l = c.loop-i in
-    let i = l.invariant in
-    let ws = c.args.s.now in (
-      omega arith,
-      i.1,
-      i.2,
-      simp length-set i.3,
-      λ f e h. rw e
-          (wrote_swept ws l.s f l.i (omega arith) (omega arith) (i.4 f e h)),
-    )
-
-pub shape_of-s : goal.shape_of-s
-shape_of-s c = c.loop-i.invariant.3
+less : (m n : ℕ) → m + n - m ≡ n
+less m n = omega arith
 
 pub returns : goal.returns
 returns c =
-    let l = c.loop-i in
-    let n : l.i ≡ c.args.n = omega arith in
-    rw n at l.invariant.4
+    let a = c.args in
+    let many = mid_len a.start (a.start + a.n) a.s.now (omega arith) ∙ less a.start a.n in
+    let zeros : c.fill.new.self ≡ replicate a.n 0 = rw many at (c.fill.ensures.after (λ y e. e)) in
+    rw (put_mid-paste a.start _ a.s.now c.fill.new.self (replicate a.n 0) a.n zeros (sym (less a.start a.n)) (sym (length-replicate {A = ℕ} a.n 0)))
+    (zeroed a.s.now a.start a.n (omega arith) c.requires)

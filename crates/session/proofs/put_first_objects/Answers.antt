@@ -13,7 +13,7 @@ returns c =
     (wrote_more BlockState 1 fresh
     (wrote_more Kind 2 task
     (wrote_more Kind 1 block
-    (wrote_more Objects 0 2 (rw c.requires.1 at (wrote_none c.args.s.now)) c.set.ensures) c.set-2.ensures)
+    (wrote_more Objects 0 2 (rw c.requires at (wrote_none c.args.s.now)) c.set.ensures) c.set-2.ensures)
     c.set-3.ensures)
     c.set-4.ensures)
     c.set-5.ensures)

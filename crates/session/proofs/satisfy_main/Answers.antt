@@ -11,6 +11,6 @@ unfolding fresh_session
 returns c =
     wrote_more SlotPayload (at 2 0) 1
     (wrote_more SlotMark (at 2 0) satisfied
-    (wrote_more SlotMode (at 2 0) mode_rw (rw c.requires.1 at (wrote_none c.args.s.now)) c.set.ensures)
+    (wrote_more SlotMode (at 2 0) mode_rw (rw c.requires at (wrote_none c.args.s.now)) c.set.ensures)
     c.set-2.ensures)
     c.set-3.ensures

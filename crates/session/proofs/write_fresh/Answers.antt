@@ -1,28 +1,23 @@
--- `session::write_fresh` meets its contract: short memory stays (`leaves_short`); long memory gets three writes (`wrote_then`).
-use Prim.Native.Nat.{◌<◌, ◌≤◌}
+-- `session::write_fresh` meets its contract: short memory stays (`leaves_short`); what is written into the first words of long memory is
+-- written into it (`wrote_first`).
 use mathlib.Core.Path.{refl}
-use native.Mathlib.Omega.{arith}
-use lib.ListN.{length}
 use borrow.Author.Tests.{lt-leb, le-leb}
 use Rattle.session.specs.Table.{words}
-use Rattle.session.specs.TableLaws.{wrote_then}
+use Rattle.session.specs.First.{wrote_first}
 use Rattle.session.specs.Fresh.{fresh_session}
 use Rattle.session.specs.FreshLaws.{leaves_short, leaves-written}
 use Rattle.session.proofs.write_fresh.Goals as goal
 
-pub returns-then-s-lt-WORDS : goal.returns-then-s-lt-WORDS
-returns-then-s-lt-WORDS c =
-    let short : length c.args.s.now < words = omega arith in record {
-      answer = rw (lt-leb words (length c.args.s.now) short) refl;
-      memory = leaves_short
-          c.args.s.now fresh_session short;
-    }
+pub returns-in_default-clause-answer : goal.returns-in_default-clause-answer
+returns-in_default-clause-answer c = rw (lt-leb words _ c.in_default.ensures.cases) refl
 
-pub returns : goal.returns
-returns c =
-    let ws = c.args.s.now in
-    let long : words ≤ length ws = omega arith in record {
-      answer = rw (le-leb words (length ws) long) refl;
-      memory = leaves-written long
-          (wrote_then c.clear.ensures (wrote_then c.put_first_objects.ensures c.satisfy_main.ensures));
-    }
+pub returns-in_default-clause-memory : goal.returns-in_default-clause-memory
+returns-in_default-clause-memory c = leaves_short _ fresh_session c.in_default.ensures.cases
+
+pub returns-clause-answer : goal.returns-clause-answer
+returns-clause-answer c = rw (le-leb words _ c.in-Some.ensures.cases.enough) refl
+
+pub returns-clause-memory : goal.returns-clause-memory
+returns-clause-memory c =
+    let chunk = c.in-Some.ensures.cases in
+    leaves-written chunk.enough (wrote_first _ _ _ chunk.enough (rw chunk.same at c.put_fresh.ensures))

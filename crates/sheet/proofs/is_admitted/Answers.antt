@@ -1,5 +1,6 @@
 -- `sheet::is_admitted` meets its contract: a kept session is sound.
 use mathlib.Core.Path.{sym, ◌∙◌}
+use native.Mathlib.Omega.{arith}
 use Rattle.rules.specs.FormulaLaws.{passes}
 use Rattle.laws.specs.ByName.{kept-sound}
 use Rattle.session.specs.Table.{read}
@@ -10,8 +11,8 @@ use Rattle.sheet.proofs.is_admitted.Goals as goal
 pub returns-then-sure : goal.returns-then-sure
 returns-then-sure c =
     let ws = c.args.memory.now in
-    sym (passes (sound (read ws)) (kept-sound (read ws) (c.requires.1 c.if-sure.true)))
+    c.if-sure.true ∙ sym (passes (sound (read ws)) (kept-sound (read ws) (c.requires c.if-sure.true)))
 
-pub returns : goal.returns
-returns c =
-    c.is_sound.ensures ∙ memory_tested c.args.memory.now c.requires.0
+pub returns-else-sure : goal.returns-else-sure
+returns-else-sure c =
+    c.is_sound.ensures ∙ memory_tested c.args.memory.now (omega arith)

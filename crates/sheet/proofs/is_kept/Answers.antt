@@ -1,5 +1,6 @@
 -- `sheet::is_kept` meets its contract: kept is sound and settled.
 use mathlib.Core.Path.{sym, ◌∙◌}
+use native.Mathlib.Omega.{arith}
 use Rattle.session.specs.Table.{read}
 use Rattle.rules.specs.Formula.{Holds}
 use Rattle.rules.specs.FormulaLaws.{passed, failed}
@@ -8,21 +9,21 @@ use Rattle.sound.specs.RulesInOrder.{memory_tested}
 use Rattle.sheet.specs.Settled.{kept_test, kept-not}
 use Rattle.sheet.proofs.is_kept.Goals as goal
 
-pub returns-then-not-is_sound : goal.returns-then-not-is_sound
-returns-then-not-is_sound c =
-    let tested = memory_tested c.args.memory.now c.requires in
-    sym (kept-not _ (failed _ (sym (c.is_sound.ensures ∙ tested) ∙ c.if-not-is_sound.true)))
+pub returns-else-is_sound : goal.returns-else-is_sound
+returns-else-is_sound c =
+    let tested = memory_tested c.args.memory.now (omega arith) in
+    c.if-is_sound.false ∙ sym (kept-not _ (failed _ (sym (c.is_sound.ensures ∙ tested) ∙ c.if-is_sound.false)))
 
 pub is_settled-requires : goal.is_settled-requires
 is_settled-requires c =
     let is-sound : (let ws = c.args.memory.now in Holds (sound (read ws))) =
-    let tested = memory_tested c.args.memory.now c.requires in
-    passed _ (sym (c.is_sound.ensures ∙ tested) ∙ c.if-not-is_sound.false) in
-    (c.requires, is-sound)
+    let tested = memory_tested c.args.memory.now (omega arith) in
+    passed _ (sym (c.is_sound.ensures ∙ tested) ∙ c.if-is_sound.true) in
+    is-sound
 
-pub returns : goal.returns
-returns c =
+pub returns-then-is_sound : goal.returns-then-is_sound
+returns-then-is_sound c =
     let is-sound : (let ws = c.args.memory.now in Holds (sound (read ws))) =
-    let tested = memory_tested c.args.memory.now c.requires in
-    passed _ (sym (c.is_sound.ensures ∙ tested) ∙ c.if-not-is_sound.false) in
+    let tested = memory_tested c.args.memory.now (omega arith) in
+    passed _ (sym (c.is_sound.ensures ∙ tested) ∙ c.if-is_sound.true) in
     c.is_settled.ensures ∙ sym (kept_test _ (is-sound))

@@ -10,14 +10,13 @@ use Rattle.sound.proofs.are_parts.Goals as goal
 
 pub returns : goal.returns
 returns c =
-    let s = read c.args.s.now in
+    let s = read c.args.v.now.s.now in
     rw (
       c.are_roots.ensures,
       c.are_objects.ensures,
       c.is_rest_unused.ensures,
       c.are_creators.ensures,
       c.of_object-null.ensures,
-      c.requires.2,
     )
     (sym (test-both (objects s) (roots s and creators s and unused s)
     ∙ rw (

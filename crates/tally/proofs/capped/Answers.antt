@@ -1,11 +1,11 @@
--- `tally::capped` meets its contract: a sum past the largest stays at it (`sum_stays`), another is the sum (`sum_is`).
-use mathlib.Core.Path.{sym}
+-- `tally::capped` meets its contract: the least of the sum and the largest (`least`).
+use Prim.Native.Nat.{◌+◌}
+use mathlib.Core.Path.{◌∙◌}
 use native.Mathlib.Omega.{arith}
-use Rattle.tally.specs.Raise.{sum_is, sum_stays}
+use Rattle.sheet.specs.Closing.{least}
+use Rattle.tally.specs.Raise.{sum_to, most}
 use Rattle.tally.proofs.capped.Goals as goal
 
-pub returns-then-a-b : goal.returns-then-a-b
-returns-then-a-b c = sym (sum_stays c.args.a c.args.b (omega arith))
-
 pub returns : goal.returns
-returns c = sym (sum_is c.args.a c.args.b (omega arith))
+unfolding sum_to
+returns c = omega (arith, c.saturating_add.ensures ∙ least (c.args.a + c.args.b) most)

@@ -6,54 +6,43 @@ use mathlib.Core.Path.{refl, ap, sym, ◌∙◌}
 use native.Mathlib.Omega.{arith}
 use lib.ListN.{length}
 use Rattle.number.specs.Number.{splice}
-use Rattle.number.specs.Splice.{splice-length, splice_then}
+use Rattle.number.specs.Splice.{splice_then}
 use Rattle.text.specs.TextLaws.{numbers-start, bytes-step, length-step, bytes-end}
 use Rattle.text.specs.SheetLength.{sheet_short}
 use Rattle.text.proofs.write_numbers.Goals as goal
 
-pub loop-i-init : goal.loop-i-init
-loop-i-init c =
+pub loop-b-init : goal.loop-b-init
+loop-b-init c =
     let text = c.args.text.now in
-    let e = numbers-start text in (
-      omega arith,
-      refl,
-      omega (arith, sheet_short text, c.requires),
-      omega (arith, ap length e),
-      rw e refl,
-    )
+    let e = numbers-start text in (omega (arith, sheet_short text, c.requires), omega (arith, ap length e), rw e refl)
 
 pub write_ended-used-requires : goal.write_ended-used-requires
 write_ended-used-requires c =
-    let l = c.loop-i in
-    let text = c.args.text.now in
-    omega (arith, length-step text l.mode l.i (omega arith) _ c.next-then.ensures)
+    let l = c.loop-b in
+    omega (arith, length-step c.args.text.now l.mode l.b-index (omega arith) _ c.next-then.ensures)
 
-pub loop-i-preserved : goal.loop-i-preserved
-loop-i-preserved c =
+pub loop-b-preserved : goal.loop-b-preserved
+loop-b-preserved c =
     let w = c.write_ended-used.ensures in
     let after = c.next-then.ensures in
-    let l = c.loop-i in
+    let l = c.loop-b in
     let text = c.args.text.now in
-    let more = length-step text l.mode l.i (omega arith) _ after in (
-      omega arith,
-      ap length w.bytes ∙ splice-length l.out l.used _ (omega arith) ∙ l.invariant.1,
-      l.invariant.2,
+    let more = length-step text l.mode l.b-index (omega arith) _ after in (
+      l.invariant.0,
       omega (arith, w.answer),
       rw (w.bytes, w.answer) (splice_then l.out l.used _ _ (omega arith))
-          ∙ ap (λ (bs : List ℕ). splice l.out l.used bs) (sym (bytes-step text l.mode l.i (omega arith) _ after))
-          ∙ l.invariant.4,
+          ∙ ap (λ (bs : List ℕ). splice l.out l.used bs) (sym (bytes-step text l.mode l.b-index (omega arith) _ after))
+          ∙ l.invariant.2,
     )
 
 pub write_ended-requires : goal.write_ended-requires
 write_ended-requires c =
-    let l = c.loop-i in
-    let text = c.args.text.now in
-    omega (arith, ap length (bytes-end text l.mode l.i c.loop-i-test.false))
+    let l = c.loop-b in
+    omega (arith, ap length (bytes-end c.args.text.now l.mode l.b-index (omega arith)))
 
 pub returns : goal.returns
 returns c =
     let w = c.write_ended.ensures in
-    let l = c.loop-i in
-    let text = c.args.text.now in
-    let e = bytes-end text l.mode l.i c.loop-i-test.false in
-    record { answer = omega (arith, w.answer, ap length e); bytes = w.bytes ∙ (rw e at l.invariant.4) }
+    let l = c.loop-b in
+    let e = bytes-end c.args.text.now l.mode l.b-index (omega arith) in
+    record { answer = omega (arith, w.answer, ap length e); bytes = w.bytes ∙ (rw e at l.invariant.2) }

@@ -1,4 +1,5 @@
 -- `unchecked::unchecked_apply` meets its contract: what `apply_sound` answered, as two numbers (`told`).
+use Rattle.rules.specs.Answer.{answer_told}
 use Rattle.library.specs.Called.{operation, told}
 use Rattle.unchecked.proofs.unchecked_apply.Goals as goal
 
@@ -8,5 +9,5 @@ returns c =
     let call = c.apply_sound in
     let a = c.args in
     rw (t.refused, t.made)
-    (told a.memory.now call.new.memory (operation a.code a.f0 a.f1 a.f2 a.f3 a.f4) call.result
+    (told a.memory.now call.new.memory (operation a.code a.f0 a.f1 a.f2 a.f3 a.f4) (answer_told call.result)
     call.ensures)

@@ -6,14 +6,11 @@ use Rattle.session.specs.declared.Field.TheVariants.{Objects}
 use Rattle.ancestors.specs.Live.{Stated, Dead}
 use Rattle.ancestors.proofs.live.last_live.Given as goal
 
+abbrev pub invariant-loop-top : goal.invariant-loop-top
+invariant-loop-top l = Dead (read l.s) l.high l.top × (l.high ≤ read l.s Objects 0) × Stated (read l.s)
+
+abbrev pub decreases-loop-top : goal.decreases-loop-top
+decreases-loop-top l = l.top
+
 abbrev pub invariant-loop-h : goal.invariant-loop-h
-invariant-loop-h l = Dead (read l.s) l.high l.h × (l.high ≤ read l.s Objects 0) × Stated (read l.s)
-
-abbrev pub decreases-loop-h : goal.decreases-loop-h
-decreases-loop-h l = l.h
-
-abbrev pub invariant-loop-h-2 : goal.invariant-loop-h-2
-invariant-loop-h-2 l = Dead (read l.s) l.high l.h
-
-abbrev pub decreases-loop-h-2 : goal.decreases-loop-h-2
-decreases-loop-h-2 l = l.h
+invariant-loop-h l = Dead (read l.s) l.high l.h

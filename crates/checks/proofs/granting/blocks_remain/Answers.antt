@@ -6,7 +6,7 @@ use native.Mathlib.Omega.{arith}
 use Rattle.checks.proofs.granting.blocks_remain.Goals as goal
 
 pub loop-j-init : goal.loop-j-init
-loop-j-init c = (c.of_object-count.ensures, omega arith, through_none _)
+loop-j-init c = through_none _
 
 pub returns-then-not-remains_or_null : goal.returns-then-not-remains_or_null
 returns-then-not-remains_or_null c =
@@ -14,12 +14,8 @@ returns-then-not-remains_or_null c =
     (rw c.of_slot_at.ensures (x c.loop-j.j (omega arith))))
 
 pub loop-j-preserved : goal.loop-j-preserved
-loop-j-preserved c = (
-  c.loop-j.invariant.0,
-  omega arith,
-  through-more _ _ c.loop-j.invariant.2
-      (rw c.of_slot_at.ensures at (yes _ c.remains_or_null.ensures c.if-not-remains_or_null.false)),
-)
+loop-j-preserved c =
+    through-more _ _ c.loop-j.invariant (rw c.of_slot_at.ensures at (yes _ c.remains_or_null.ensures c.if-not-remains_or_null.false))
 
 pub returns : goal.returns
-returns c = right _ (λ i h. c.loop-j.invariant.2.all i (omega arith))
+returns c = right _ (λ i h. c.loop-j.invariant.all i (omega arith))

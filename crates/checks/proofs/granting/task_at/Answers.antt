@@ -10,30 +10,18 @@ use Rattle.checks.proofs.granting.task_at.Goals as goal
 
 pub loop-j-init : goal.loop-j-init
 unfolding up_to
-loop-j-init c = (omega arith, refl, refl)
+loop-j-init c = (refl, refl)
 
 pub loop-j-preserved : goal.loop-j-preserved
 loop-j-preserved c =
-    let i = c.loop-j.invariant in (
-      omega arith,
-      simp length-set i.1,
-      rw c.slot_of.ensures
-          (up_to-more _ _ (λ j. slot_at _ (at _ j)) (omega (arith, i.1)) i.2),
-    )
+    let i = c.loop-j.invariant in
+    (simp length-set i.0, rw c.slot_of.ensures (up_to-more _ _ (λ j. slot_at _ (at _ j)) (omega (arith, i.0)) i.1))
 
 pub returns : goal.returns
 unfolding task_at
 returns c =
     let l = c.loop-j in
-    let a = c.args in
     let d : l.j ≡ 16 = omega arith in
-    let e : l.slots ≡ up_to 16 (λ j. slot_at (read a.s.now) (at a.t j)) = sym
-    (take_all 16 l.slots (omega (arith, l.invariant.1))) ∙ rw d at l.invariant.2 in
-    rw (
-      c.get.ensures,
-      c.get-2.ensures,
-      c.get-3.ensures,
-      c.get-4.ensures,
-      c.get-5.ensures,
-      e,
-    )
+    let e : l.slots ≡ up_to 16 (λ j. slot_at (read c.args.s.now) (at c.args.t j)) =
+    sym (take_all 16 l.slots (omega (arith, l.invariant.0))) ∙ rw d at l.invariant.1 in
+    rw (c.get.ensures, c.get-2.ensures, c.get-3.ensures, c.get-4.ensures, c.get-5.ensures, e)

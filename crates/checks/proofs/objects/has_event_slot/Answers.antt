@@ -5,4 +5,4 @@ use Rattle.checks.proofs.objects.has_event_slot.Goals as goal
 
 pub returns : goal.returns
 returns c =
-    rw c.of_object.ensures (slot_tested (read c.args.s.now) c.args.e c.args.j c.requires.1)
+    rw c.of_object.ensures (slot_tested (read c.args.s.now) c.args.e c.args.j c.requires)

@@ -15,6 +15,5 @@ returns-then-is_kind c =
 
 pub has_event_slot-requires : goal.has_event_slot-requires
 has_event_slot-requires c =
-    let p = c.requires in
     let no_task = no _ c.is_kind.ensures c.if-is_kind.false in
-    (p.0, ⊎_elim (λ t. absurd (no_task t)) (λ u. u) p.1)
+    ⊎_elim (λ t. absurd (no_task t)) (λ u. u) c.requires

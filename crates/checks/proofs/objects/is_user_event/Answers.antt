@@ -4,4 +4,4 @@ use Rattle.checks.proofs.objects.is_user_event.Goals as goal
 
 pub returns : goal.returns
 returns c =
-    rw (c.of_object-2.ensures, c.of_object.ensures) (user_tested c.args.s.now c.args.h c.requires.1)
+    rw (c.of_object-2.ensures, c.of_object.ensures) (user_tested c.args.s.now c.args.h c.requires)

@@ -2,4 +2,4 @@
 use Rattle.class.proofs.steps.hold.Goals as goal
 
 pub returns : goal.returns
-returns c = rw (c.one_less-left.ensures, c.turned_in-sheet.ensures) at c.go_on.ensures
+returns c = rw (c.saturating_sub.ensures, c.turned_in.ensures) at c.go_on.ensures

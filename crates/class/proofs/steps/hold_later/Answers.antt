@@ -7,6 +7,6 @@ supersede-later-requires c = rw c.turned_in.ensures c.requires
 pub returns : goal.returns
 returns c =
     rw (
-      c.one_less-left.ensures,
+      c.saturating_sub.ensures,
       rw c.turned_in.ensures at c.supersede-later.ensures,
     ) at c.go_on.ensures

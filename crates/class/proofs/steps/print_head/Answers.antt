@@ -5,4 +5,4 @@ use Rattle.class.proofs.steps.print_head.Goals as goal
 pub returns : goal.returns
 returns c =
     let w = c.write_head-used.ensures in
-    record { report = rw c.start.ensures at c.at_stage-next.ensures; line = w.put; short = omega (arith, w.most) }
+    record { report = rw c.start.ensures at c.at_stage.ensures; line = w.put; short = omega (arith, w.most) }

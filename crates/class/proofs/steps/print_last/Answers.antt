@@ -4,4 +4,4 @@ use Rattle.class.proofs.steps.print_last.Goals as goal
 pub returns : goal.returns
 returns c =
     let w = c.write_last-used.ensures in
-    record { report = rw c.start.ensures at c.at_stage-next.ensures; line = w.put; short = w.most }
+    record { report = rw c.start.ensures at c.at_stage.ensures; line = w.put; short = w.most }

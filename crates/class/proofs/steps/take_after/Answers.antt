@@ -33,4 +33,4 @@ returns c =
       fails (a.sheet.learner ≐ a.report.learner) (λ h. omega arith),
     )
     (moved_ran _ _ (holding a.report a.place) _ c.run_sheet-shown.ensures
-    c.hold-next.ensures refl)
+    c.hold.ensures refl)

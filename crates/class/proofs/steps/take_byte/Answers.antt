@@ -5,8 +5,8 @@ use Rattle.class.specs.Steps.{numbered}
 use Rattle.class.specs.Stepped.{byte_none, byte_some}
 use Rattle.class.proofs.steps.take_byte.Goals as goal
 
-pub returns-then-bytes-eq0 : goal.returns-then-bytes-eq0
-returns-then-bytes-eq0 c =
+pub returns-in_default : goal.returns-in_default
+returns-in_default c =
     let a = c.args in
     c.stopped.ensures ∙ byte_none a.report a.report.stage a.bytes.now (omega arith)
 

@@ -3,4 +3,4 @@ use mathlib.Core.Path.{refl}
 use Rattle.class.proofs.steps.with_entry.Goals as goal
 
 pub returns : goal.returns
-returns c = rw c.start-number.ensures refl
+returns c = rw c.start.ensures refl

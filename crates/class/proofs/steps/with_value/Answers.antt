@@ -1,6 +1,7 @@
 -- `class::steps::with_value` meets its contract, stage by stage.
 use mathlib.Core.Path.{ap, sym, ◌∙◌}
 use Rattle.class.specs.Steps.{valued}
+use Rattle.class.specs.Stepped.{valued_same}
 use Rattle.class.proofs.steps.with_value.Goals as goal
 
 pub returns-in-Count : goal.returns-in-Count
@@ -27,27 +28,6 @@ returns-in-Length c =
     let a = c.args in
     c.with_entry-in-Length.ensures ∙ ap (λ stage. valued a.report stage a.v) (sym c.in-Length.is)
 
-pub returns-in-Head : goal.returns-in-Head
-unfolding valued
-returns-in-Head c =
-    let a = c.args in ap (λ stage. valued a.report stage a.v) (sym c.in-Head.is)
-
-pub returns-in-Sheet : goal.returns-in-Sheet
-unfolding valued
-returns-in-Sheet c =
-    let a = c.args in ap (λ stage. valued a.report stage a.v) (sym c.in-Sheet.is)
-
-pub returns-in-Line : goal.returns-in-Line
-unfolding valued
-returns-in-Line c =
-    let a = c.args in ap (λ stage. valued a.report stage a.v) (sym c.in-Line.is)
-
-pub returns-in-Last : goal.returns-in-Last
-unfolding valued
-returns-in-Last c =
-    let a = c.args in ap (λ stage. valued a.report stage a.v) (sym c.in-Last.is)
-
-pub returns-in-Nothing : goal.returns-in-Nothing
-unfolding valued
-returns-in-Nothing c =
-    let a = c.args in ap (λ stage. valued a.report stage a.v) (sym c.in-Nothing.is)
+pub returns-in_default : goal.returns-in_default
+returns-in_default c =
+    let d = c.in_default in valued_same c.args.report _ c.args.v d.not-Count d.not-Learner d.not-Turn d.not-Length

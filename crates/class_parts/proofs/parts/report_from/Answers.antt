@@ -9,16 +9,13 @@ use Rattle.class_parts.proofs.parts.report_from.Goals as goal
 pub loop-lines-init : goal.loop-lines-init
 loop-lines-init c =
     going-first c.args.file.now c.args.place c.args.report c.args.memory.now c.args.lines.now
-    c.requires.words_in_bounds.1 c.requires.place_in_bounds.0
+    c.requires.fresh c.requires.place_in_bounds.0
 
 pub overflow_sub-lines : goal.overflow_sub-lines
 overflow_sub-lines c = c.loop-lines.invariant.fits
 
 pub pass_over-along-requires : goal.pass_over-along-requires
 pass_over-along-requires c = c.loop-lines.invariant.inside
-
-pub shape_of-memory-then-is_over : goal.shape_of-memory-then-is_over
-shape_of-memory-then-is_over c = c.loop-lines.invariant.session.same_length
 
 pub shape_of-lines-then-is_over : goal.shape_of-lines-then-is_over
 shape_of-lines-then-is_over c = c.loop-lines.invariant.long
@@ -32,7 +29,7 @@ returns-then-is_over c =
 pub step_on-part-requires : goal.step_on-part-requires
 step_on-part-requires c =
     let l = c.loop-lines.invariant in record {
-      words_in_bounds = (omega (arith, l.session.same_length, c.requires.words_in_bounds.0), l.keeps);
+      kept = l.keeps;
       place_in_bounds = (c.pass_over-along.ensures.inside, omega (arith, l.fits));
     }
 
@@ -48,9 +45,6 @@ loop-lines-preserved c =
     let l = c.loop-lines.invariant in
     let g = going_along _ _ _ _ _ _ _ _ _ _ l _ _ c.pass_over-along.ensures in
     going_on _ _ _ _ _ _ _ _ _ _ g _ _ _ (omega (arith, l.fits)) t.auto.lines t.ensures
-
-pub shape_of-memory : goal.shape_of-memory
-shape_of-memory c = c.loop-lines.invariant.session.same_length
 
 pub shape_of-lines : goal.shape_of-lines
 shape_of-lines c = c.loop-lines.invariant.long

@@ -5,7 +5,7 @@ use Rattle.class_parts.proofs.parts.report_from.Given as goal
 
 abbrev pub invariant-loop-lines : goal.invariant-loop-lines
 invariant-loop-lines l =
-    Going l.file l.place l.initial.now l.initial.memory l.memory l.initial.lines l.lines l.at l.now l.used
+    Going l.file l.place l.initial.part.report l.initial.memory l.memory l.initial.lines l.lines l.part.place l.part.report l.part.used
 
 abbrev pub decreases-loop-lines : goal.decreases-loop-lines
-decreases-loop-lines l = steps_left l.file l.at l.now
+decreases-loop-lines l = steps_left l.file l.part.place l.part.report

@@ -15,31 +15,31 @@ pub is_whole-requires : goal.is_whole-requires
 is_whole-requires c =
     let l = c.loop-more in
     let f = c.args.file.now in
-    let is = sym c.header_at-next.ensures ∙ c.in-Numbers.is in
+    let is = sym c.header_at.ensures ∙ c.in-Some.is in
     header_inside f l.at _ is
 
 pub supersede-held-requires : goal.supersede-held-requires
 supersede-held-requires c =
     let l = c.loop-more in
     let f = c.args.file.now in
-    let is = sym c.header_at-next.ensures ∙ c.in-Numbers.is in
+    let is = sym c.header_at.ensures ∙ c.in-Some.is in
     header_inside f l.at _ is
 
 pub overflow_add-at : goal.overflow_add-at
 overflow_add-at c =
     let l = c.loop-more in
     let f = c.args.file.now in
-    let is = sym c.header_at-next.ensures ∙ c.in-Numbers.is in
-    let w = passed (fits f c.in-Numbers.later.place c.in-Numbers.later.length)
+    let is = sym c.header_at.ensures ∙ c.in-Some.is in
+    let w = passed (fits f c.in-Some.later.place c.in-Some.later.length)
     (sym c.is_whole.ensures ∙ c.if-not-is_whole.false) in
-    omega (arith, w.1, length-drop c.in-Numbers.later.place f, header_inside f l.at _ is)
+    omega (arith, w.1, length-drop c.in-Some.later.place f, header_inside f l.at _ is)
 
 pub loop-more-preserved : goal.loop-more-preserved
 loop-more-preserved c =
     let l = c.loop-more in
     let f = c.args.file.now in
-    let is = sym c.header_at-next.ensures ∙ c.in-Numbers.is in
-    let w = passed (fits f c.in-Numbers.later.place c.in-Numbers.later.length)
+    let is = sym c.header_at.ensures ∙ c.in-Some.is in
+    let w = passed (fits f c.in-Some.later.place c.in-Some.later.length)
     (sym c.is_whole.ensures ∙ c.if-not-is_whole.false) in
     let m = passed_more f c.args.place _ l.at l.more l.held _ c.args.tally c.loop-more-test.true
     l.invariant.0 is c.if-later-held.false w in

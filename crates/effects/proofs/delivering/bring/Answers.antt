@@ -12,37 +12,36 @@ use Rattle.rules.specs.Effects.{drops, satisfy, bring}
 use Rattle.laws.specs.Puts.{wrote_next}
 use Rattle.effects.specs.Ready.{deliver-ready}
 use Rattle.effects.specs.Delivering.{delivered_satisfiable}
-use borrow.Author.Rules.{rules}
 use Rattle.effects.proofs.delivering.bring.Goals as goal
 
 pub get-d-requires : goal.get-d-requires
 get-d-requires c =
-    let ready = deliver-ready _ _ c.requires.1 c.requires.2 in
-    omega (arith, c.requires.0, ready.link, ready.links)
+    let ready = deliver-ready _ _ c.requires.0 c.requires.1 in
+    omega (arith, ready.link, ready.links)
 
 pub get-j-requires : goal.get-j-requires
 get-j-requires c =
-    let ready = deliver-ready _ _ c.requires.1 c.requires.2 in
-    omega (arith, c.requires.0, ready.link, ready.links)
+    let ready = deliver-ready _ _ c.requires.0 c.requires.1 in
+    omega (arith, ready.link, ready.links)
 
 pub get-source-requires : goal.get-source-requires
 get-source-requires c =
-    let ready = deliver-ready _ _ c.requires.1 c.requires.2 in
-    omega (arith, c.requires.0, ready.link, ready.links)
+    let ready = deliver-ready _ _ c.requires.0 c.requires.1 in
+    omega (arith, ready.link, ready.links)
 
 pub get-p-requires : goal.get-p-requires
 get-p-requires c =
-    let ready = deliver-ready _ _ c.requires.1 c.requires.2 in
-    omega (arith, c.requires.0, c.get-source.ensures, ready.source)
+    let ready = deliver-ready _ _ c.requires.0 c.requires.1 in
+    omega (arith, c.get-source.ensures, ready.source)
 
 pub set-requires : goal.set-requires
 set-requires c =
-    let ready = deliver-ready _ _ c.requires.1 c.requires.2 in
-    omega (arith, c.requires.0, ready.link, ready.links)
+    let ready = deliver-ready _ _ c.requires.0 c.requires.1 in
+    omega (arith, ready.link, ready.links)
 
 pub overflow_add-n : goal.overflow_add-n
 overflow_add-n c =
-    let ready = deliver-ready _ _ c.requires.1 c.requires.2 in
+    let ready = deliver-ready _ _ c.requires.0 c.requires.1 in
     omega (arith, c.get-n.ensures, ready.dropped)
 
 pub returns-then-drops : goal.returns-then-drops
@@ -62,17 +61,15 @@ satisfy_either-requires c =
     let slot = c.get-j in
     let target = c.get-d in
     let a = c.args in
-    let ready = deliver-ready _ _ c.requires.1 c.requires.2 in
+    let ready = deliver-ready _ _ c.requires.0 c.requires.1 in
     let e : test (drops (read a.s.now) (read a.s.now LinkTarget a.l) (read a.s.now LinkSlot a.l)) ≡ false = rw
-    (target.ensures, slot.ensures) at (sym c.drops-drops.ensures ∙ c.if-drops.false) in (
-      search rules,
-      rw (c.set.ensures.reading, target.ensures, slot.ensures)
-          (delivered_satisfiable _ _ _ _ ready.link (ready.satisfies (failed _ e))),
-    )
+    (target.ensures, slot.ensures) at (sym c.drops-drops.ensures ∙ c.if-drops.false) in
+    rw (c.set.ensures.reading, target.ensures, slot.ensures)
+    (delivered_satisfiable _ _ _ _ ready.link (ready.satisfies (failed _ e)))
 
-pub returns : goal.returns
+pub returns-else-drops : goal.returns-else-drops
 unfolding bring
-returns c =
+returns-else-drops c =
     let slot = c.get-j in
     let target = c.get-d in
     let a = c.args in

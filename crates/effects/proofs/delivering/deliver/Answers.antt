@@ -3,14 +3,13 @@
 use Rattle.rules.specs.Effects.{bring, deliver}
 use Rattle.laws.specs.Puts.{wrote_next}
 use Rattle.effects.specs.Delivering.{expire-ready}
-use borrow.Author.Rules.{rules}
 use Rattle.effects.proofs.delivering.deliver.Goals as goal
 
 pub bring-requires : goal.bring-requires
 bring-requires c =
-    let ready = expire-ready _ _ c.requires.1 c.requires.2 in
+    let ready = expire-ready _ _ c.requires.0 c.requires.1 in
     let now = c.expire.ensures.reading in
-    (search rules, rw now ready.0, rw now ready.1)
+    (rw now ready.0, rw now ready.1)
 
 pub returns : goal.returns
 unfolding deliver

@@ -12,18 +12,18 @@ use Rattle.effects.proofs.delivering.expire.Goals as goal
 
 pub serves_last-requires : goal.serves_last-requires
 serves_last-requires c =
-    let ready = deliver-ready _ _ c.requires.1 c.requires.2 in
-    (c.requires.0, ready.links)
+    let ready = deliver-ready _ _ c.requires.0 c.requires.1 in
+    omega (arith, ready.links)
 
 pub get-source-requires : goal.get-source-requires
 get-source-requires c =
-    let ready = deliver-ready _ _ c.requires.1 c.requires.2 in
-    omega (arith, c.requires.0, ready.link, ready.links)
+    let ready = deliver-ready _ _ c.requires.0 c.requires.1 in
+    omega (arith, ready.link, ready.links)
 
 pub set-requires : goal.set-requires
 set-requires c =
-    let ready = deliver-ready _ _ c.requires.1 c.requires.2 in
-    omega (arith, c.requires.0, c.get-source.ensures, ready.source)
+    let ready = deliver-ready _ _ c.requires.0 c.requires.1 in
+    omega (arith, c.get-source.ensures, ready.source)
 
 pub returns-then-serves_last : goal.returns-then-serves_last
 returns-then-serves_last c =

@@ -6,7 +6,6 @@ use Rattle.session.specs.Names.{fired, ready}
 use Rattle.session.specs.declared.Field.TheVariants.{EventState, EventPayload}
 use Rattle.effects.specs.OpenLinks.{open_links_set, fire_one-words}
 use Rattle.laws.specs.Puts.{wrote_next}
-use borrow.Author.Rules.{rules}
 use Rattle.effects.proofs.firing.fire_one.Goals as goal
 
 pub set_open_links-requires : goal.set_open_links-requires
@@ -14,7 +13,7 @@ unfolding put
 set_open_links-requires c =
     let w = wrote_more EventPayload _ _ (wrote_more EventState _ _ (wrote_none c.args.s.now) c.set.ensures)
     c.set-2.ensures in
-    (search rules, rw w.reading c.requires.2, rw w.reading c.requires.3)
+    (rw w.reading c.requires.1, rw w.reading c.requires.2)
 
 pub returns : goal.returns
 returns c =

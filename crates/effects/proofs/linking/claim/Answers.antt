@@ -1,24 +1,9 @@
 -- `effects::linking::claim` meets its contract: of a task, whose slot is then below 16, the mode is put (`choose_yes`), else
 -- nothing (`choose_no`).
-use Prim.Native.Nat.{◌<◌}
-use native.Mathlib.Omega.{arith}
 use Rattle.session.specs.TableLaws.{wrote_none}
 use Rattle.rules.specs.FormulaLaws.{choose_yes, choose_no}
 use Rattle.rules.specs.Effects.{claim}
-use borrow.Author.Rules.{rules}
 use Rattle.effects.proofs.linking.claim.Goals as goal
-
-pub overflow_add-at : goal.overflow_add-at
-overflow_add-at c =
-    let j : c.args.j < 16 = c.requires.2
-    (rw c.get.ensures at c.if-get-eq-TASK.true) in
-    omega arith
-
-pub set-requires : goal.set-requires
-set-requires c =
-    let j : c.args.j < 16 = c.requires.2
-    (rw c.get.ensures at c.if-get-eq-TASK.true) in
-    (search rules, omega arith)
 
 pub returns-then-get-eq-TASK : goal.returns-then-get-eq-TASK
 unfolding claim

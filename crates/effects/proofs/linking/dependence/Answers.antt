@@ -8,23 +8,21 @@ use Rattle.effects.specs.Made.{link_made}
 use Rattle.effects.specs.Ready.{dependence-ready}
 use Rattle.effects.specs.Linking.{claim-links, claim_satisfiable}
 use Rattle.laws.specs.Puts.{wrote_next}
-use borrow.Author.Rules.{rules}
 use Rattle.effects.proofs.linking.dependence.Goals as goal
 
 pub get-kind-requires : goal.get-kind-requires
 get-kind-requires c =
-    omega (arith, c.requires.0, (dependence-ready _ _ _ _ _ _ c.requires.1 c.requires.2).from)
+    omega (arith, (dependence-ready _ _ _ _ _ _ c.requires.0 c.requires.1).from)
 
 pub claim-requires : goal.claim-requires
 claim-requires c =
-    let p = dependence-ready _ _ _ _ _ _ c.requires.1 c.requires.2 in
-    (c.requires.0, p.handle, p.slot)
+    let p = dependence-ready _ _ _ _ _ _ c.requires.0 c.requires.1 in
+    (p.handle, p.slot)
 
 pub new_link-requires : goal.new_link-requires
 new_link-requires c =
     let q = c.requires in
-    let p = dependence-ready _ _ _ _ _ _ q.1 q.2 in (
-      search rules,
+    let p = dependence-ready _ _ _ _ _ _ q.0 q.1 in (
       p.from,
       rw (c.claim.ensures.reading, claim-links)
           (p.room (rw c.get-kind.ensures at c.if-kind-eq-EVENT.true)),
@@ -46,15 +44,13 @@ returns-then-kind-eq-EVENT c =
 pub satisfy_either-requires : goal.satisfy_either-requires
 satisfy_either-requires c =
     let q = c.requires in
-    let p = dependence-ready _ _ _ _ _ _ q.1 q.2 in (
-      search rules,
-      rw c.claim.ensures.reading
-          (claim_satisfiable _ _ _ _ (p.satisfies (rw c.get-kind.ensures at c.if-kind-eq-EVENT.false))),
-    )
+    let p = dependence-ready _ _ _ _ _ _ q.0 q.1 in
+    rw c.claim.ensures.reading
+    (claim_satisfiable _ _ _ _ (p.satisfies (rw c.get-kind.ensures at c.if-kind-eq-EVENT.false)))
 
-pub returns : goal.returns
+pub returns-else-kind-eq-EVENT : goal.returns-else-kind-eq-EVENT
 unfolding depend link_made
-returns c =
+returns-else-kind-eq-EVENT c =
     let a = c.args in
     let claimed = c.claim in
     let kind = rw c.get-kind.ensures at c.if-kind-eq-EVENT.false in

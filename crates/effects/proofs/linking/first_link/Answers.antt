@@ -8,6 +8,6 @@ pub returns-then-state-eq-FIRED : goal.returns-then-state-eq-FIRED
 unfolding first_link
 returns-then-state-eq-FIRED c = sym (choose_yes _ _ _ c.if-state-eq-FIRED.true)
 
-pub returns : goal.returns
+pub returns-else-state-eq-FIRED : goal.returns-else-state-eq-FIRED
 unfolding first_link
-returns c = sym (choose_no _ _ _ c.if-state-eq-FIRED.false)
+returns-else-state-eq-FIRED c = sym (choose_no _ _ _ c.if-state-eq-FIRED.false)

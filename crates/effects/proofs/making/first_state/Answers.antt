@@ -8,6 +8,6 @@ pub returns-then-n-eq0 : goal.returns-then-n-eq0
 unfolding first_state
 returns-then-n-eq0 c = sym (choose_yes _ _ _ c.if-n-eq0.true)
 
-pub returns : goal.returns
+pub returns-else-n-eq0 : goal.returns-else-n-eq0
 unfolding first_state
-returns c = sym (choose_no _ _ _ c.if-n-eq0.false)
+returns-else-n-eq0 c = sym (choose_no _ _ _ c.if-n-eq0.false)

@@ -8,6 +8,6 @@ pub returns-then-ty-eq-LATCH : goal.returns-then-ty-eq-LATCH
 unfolding first_tally
 returns-then-ty-eq-LATCH c = sym (choose_yes _ _ _ c.if-ty-eq-LATCH.true)
 
-pub returns : goal.returns
+pub returns-else-ty-eq-LATCH : goal.returns-else-ty-eq-LATCH
 unfolding first_tally
-returns c = sym (choose_no _ _ _ c.if-ty-eq-LATCH.false)
+returns-else-ty-eq-LATCH c = sym (choose_no _ _ _ c.if-ty-eq-LATCH.false)

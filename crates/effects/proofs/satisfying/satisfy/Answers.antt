@@ -4,4 +4,4 @@ use Rattle.effects.specs.Ready.{satisfy-ready}
 use Rattle.effects.proofs.satisfying.satisfy.Goals as goal
 
 pub satisfy_event-requires : goal.satisfy_event-requires
-satisfy_event-requires c = let p = c.requires in (p.0, satisfy-ready _ _ _ _ _ p.1 p.2)
+satisfy_event-requires c = satisfy-ready _ _ _ _ _ c.requires.0 c.requires.1

@@ -8,7 +8,6 @@ use Rattle.session.specs.declared.Field.TheVariants.{TaskState, SlotMark, SlotPa
 use Rattle.rules.specs.Formula.{test}
 use Rattle.rules.specs.Sound.{full}
 use Rattle.effects.specs.Satisfying.{filled, filled_last, filled-one}
-use borrow.Author.Rules.{rules}
 use Rattle.effects.proofs.satisfying.satisfy_slot.Goals as goal
 
 pub is_filled-requires : goal.is_filled-requires
@@ -18,7 +17,7 @@ is_filled-requires c =
     let p = c.requires in
     let w = wrote_more SlotPayload _ a.p (wrote_more SlotMark _ _ (wrote_none a.s.now) c.set.ensures)
     c.set-2.ensures in
-    (search rules, p.1, rw w.reading p.2.count)
+    (p.0, rw w.reading p.1.count)
 
 pub returns-then-is_filled : goal.returns-then-is_filled
 returns-then-is_filled c =

@@ -5,18 +5,14 @@ use Rattle.rules.specs.FormulaLaws.{choose_yes, choose_no}
 use Rattle.rules.specs.Effects.{fire_one, tally}
 use Rattle.effects.specs.Satisfying.{next_tally}
 use Rattle.laws.specs.Puts.{wrote_next}
-use borrow.Author.Rules.{rules}
 use Rattle.effects.proofs.satisfying.tally.Goals as goal
-
-pub next_tally-n-requires : goal.next_tally-n-requires
-next_tally-n-requires c = let p = c.requires in rw c.get.ensures (p.2.top, p.2.low)
 
 pub fire_one-requires : goal.fire_one-requires
 unfolding put
 fire_one-requires c =
-    let p = c.requires.1 in
+    let p = c.requires.0 in
     let w = c.set.ensures.reading in
-    (search rules, p.handle, rw w p.links, rw w p.no_more)
+    (p.handle, rw w p.links, rw w p.no_more)
 
 pub returns-then-n-eq-EVEN_TALLY : goal.returns-then-n-eq-EVEN_TALLY
 unfolding tally next_tally

@@ -1,32 +1,17 @@
 -- `engine::operations::counted` meets its contract: the first check that fails, or what the effect makes.
-use mathlib.Core.Path.{sym, ◌∙◌}
+use mathlib.Core.Path.{sym}
 use Rattle.session.specs.Table.{read}
 use Rattle.rules.specs.Checks.{counted_checks}
 use Rattle.rules.specs.Step.{counted_rule}
 use Rattle.laws.specs.Met.{all_met_lem}
-use Rattle.engine.specs.Played.{played_refused, played_accepted}
+use Rattle.engine.specs.Played.{played_err, played_accepted}
 use Rattle.engine.proofs.operations.counted.Goals as goal
 
-pub returns-then-refused-ne0 : goal.returns-then-refused-ne0
-returns-then-refused-ne0 c =
-    let a = c.args in
-    played_refused counted_rule _ a.s.now _ c.counted_refusal-refused.ensures
-    c.if-refused-ne0.true
+pub returns-in_err-counted_refusal : goal.returns-in_err-counted_refusal
+returns-in_err-counted_refusal c = played_err counted_rule _ _ _ _ c.in_err-counted_refusal.ensures c.from_residual.ensures.1
 
 pub counted-requires : goal.counted-requires
-counted-requires c =
-    let a = c.args in
-    let e = sym c.counted_refusal-refused.ensures ∙ c.if-refused-ne0.false in (
-      c.requires.0,
-      c.requires.1,
-      all_met_lem
-          (counted_checks (read a.s.now) a.caller a.n) tt e,
-    )
+counted-requires c = (c.requires, all_met_lem (counted_checks (read c.args.s.now) c.args.caller c.args.n) tt (sym c.in_ok-counted_refusal.ensures))
 
 pub returns : goal.returns
-returns c =
-    let a = c.args in
-    let e = sym c.counted_refusal-refused.ensures
-    ∙ c.if-refused-ne0.false in
-    played_accepted counted_rule _ a.s.now _ _ e
-    c.counted.ensures.answer c.counted.ensures.wrote
+returns c = played_accepted counted_rule _ _ _ _ (sym c.in_ok-counted_refusal.ensures) c.counted.ensures.answer c.counted.ensures.wrote

@@ -1,32 +1,17 @@
 -- `engine::operations::deliver` meets its contract: the first check that fails, or what the effect makes.
-use mathlib.Core.Path.{refl, sym, ◌∙◌}
+use mathlib.Core.Path.{refl, sym}
 use Rattle.session.specs.Table.{read}
 use Rattle.rules.specs.Checks.{deliver_checks}
 use Rattle.rules.specs.Step.{deliver_rule}
 use Rattle.laws.specs.Met.{all_met_lem}
-use Rattle.engine.specs.Played.{played_refused, played_accepted}
+use Rattle.engine.specs.Played.{played_err, played_accepted}
 use Rattle.engine.proofs.operations.deliver.Goals as goal
 
-pub returns-then-refused-ne0 : goal.returns-then-refused-ne0
-returns-then-refused-ne0 c =
-    let a = c.args in
-    played_refused deliver_rule _ a.s.now _ c.deliver_refusal-refused.ensures
-    c.if-refused-ne0.true
+pub returns-in_err-deliver_refusal : goal.returns-in_err-deliver_refusal
+returns-in_err-deliver_refusal c = played_err deliver_rule _ _ _ _ c.in_err-deliver_refusal.ensures c.from_residual.ensures.1
 
 pub deliver-requires : goal.deliver-requires
-deliver-requires c =
-    let a = c.args in
-    let e = sym c.deliver_refusal-refused.ensures ∙ c.if-refused-ne0.false in (
-      c.requires.0,
-      c.requires.1,
-      all_met_lem
-          (deliver_checks (read a.s.now) a.l) tt e,
-    )
+deliver-requires c = (c.requires, all_met_lem (deliver_checks (read c.args.s.now) c.args.l) tt (sym c.in_ok-deliver_refusal.ensures))
 
 pub returns : goal.returns
-returns c =
-    let a = c.args in
-    let e = sym c.deliver_refusal-refused.ensures
-    ∙ c.if-refused-ne0.false in
-    played_accepted deliver_rule _ a.s.now _ _ e refl
-    c.deliver.ensures
+returns c = played_accepted deliver_rule _ _ _ _ (sym c.in_ok-deliver_refusal.ensures) refl c.deliver.ensures

@@ -1,32 +1,18 @@
 -- `engine::operations::end` meets its contract: the first check that fails, or what the effect makes.
-use mathlib.Core.Path.{sym, ◌∙◌}
+use mathlib.Core.Path.{sym}
+use native.Mathlib.Omega.{arith}
 use Rattle.session.specs.Table.{read}
 use Rattle.rules.specs.Checks.{end_checks}
 use Rattle.rules.specs.Step.{end_rule}
 use Rattle.laws.specs.Met.{all_met_lem}
-use Rattle.engine.specs.Played.{played_refused, played_accepted}
+use Rattle.engine.specs.Played.{played_err, played_accepted}
 use Rattle.engine.proofs.operations.end.Goals as goal
 
-pub returns-then-refused-ne0 : goal.returns-then-refused-ne0
-returns-then-refused-ne0 c =
-    let a = c.args in
-    played_refused end_rule _ a.s.now _ c.end_refusal-refused.ensures
-    c.if-refused-ne0.true
+pub returns-in_err-end_refusal : goal.returns-in_err-end_refusal
+returns-in_err-end_refusal c = played_err end_rule _ _ _ _ c.in_err-end_refusal.ensures c.from_residual.ensures.1
 
 pub end-requires : goal.end-requires
-end-requires c =
-    let a = c.args in
-    let e = sym c.end_refusal-refused.ensures ∙ c.if-refused-ne0.false in (
-      c.requires.0,
-      c.requires.1,
-      all_met_lem
-          (end_checks (read a.s.now) a.t a.b) tt e,
-    )
+end-requires c = (omega arith, c.requires, all_met_lem (end_checks (read c.args.s.now) c.args.t c.args.b) tt (sym c.in_ok-end_refusal.ensures))
 
 pub returns : goal.returns
-returns c =
-    let a = c.args in
-    let e = sym c.end_refusal-refused.ensures
-    ∙ c.if-refused-ne0.false in
-    played_accepted end_rule _ a.s.now _ _ e
-    c.end.ensures.answer c.end.ensures.wrote
+returns c = played_accepted end_rule _ _ _ _ (sym c.in_ok-end_refusal.ensures) c.end.ensures.answer c.end.ensures.wrote

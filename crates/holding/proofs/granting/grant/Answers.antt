@@ -13,13 +13,13 @@ use Rattle.holding.proofs.granting.grant.Goals as goal
 pub hold_slots-requires : goal.hold_slots-requires
 hold_slots-requires c =
     let s = read c.args.s.now in
-    (c.requires.0, handle_made s c.args.t (sound_by_name s c.requires.1) c.requires.2.0)
+    handle_made s c.args.t (sound_by_name s c.requires.0) c.requires.1.0
 
 pub set-requires : goal.set-requires
 set-requires c =
     let s = read c.args.s.now in
-    let l = handle_made s c.args.t (sound_by_name s c.requires.1) c.requires.2.0 in
-    omega (arith, l, c.requires.0, c.hold_slots.ensures.same_length)
+    let l = handle_made s c.args.t (sound_by_name s c.requires.0) c.requires.1.0 in
+    omega (arith, l, c.hold_slots.ensures.same_length)
 
 pub returns : goal.returns
 returns c =

@@ -6,7 +6,7 @@ use Rattle.holding.proofs.granting.hold_slot.Goals as goal
 
 pub returns-then-get-ge1 : goal.returns-then-get-ge1
 returns-then-get-ge1 c =
-    rw (grant_row-own _ _ _ c.requires.2 (rw c.get.ensures at c.if-get-ge1.true))
+    rw (grant_row-own _ _ _ c.requires.1 (rw c.get.ensures at c.if-get-ge1.true))
     c.set.ensures
 
 pub returns-else-get-ge1 : goal.returns-else-get-ge1

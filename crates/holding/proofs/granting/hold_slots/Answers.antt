@@ -12,8 +12,6 @@ pub loop-j-init : goal.loop-j-init
 loop-j-init c =
     let a = c.args in (
       omega arith,
-      omega arith,
-      omega arith,
       rw
           (own_begin (read a.s.now) a.t (grant_row a.t) (grant_row-other (read a.s.now) a.t)) (wrote_none _),
     )
@@ -22,12 +20,9 @@ pub loop-j-preserved : goal.loop-j-preserved
 loop-j-preserved c =
     let f = c.hold_slot in
     let i = c.loop-j.invariant in
-    (omega arith, i.1, i.2, rw (← add_assoc, ← row_next _ _ _ _ _ i.3.reading) (wrote_then i.3 f.ensures))
-
-pub shape_of-s : goal.shape_of-s
-shape_of-s c = c.loop-j.invariant.3.same_length
+    (i.0, rw (← add_assoc, ← row_next _ _ _ _ _ i.1.reading) (wrote_then i.1 f.ensures))
 
 pub returns : goal.returns
 returns c =
     let l = c.loop-j in
-    rw (← granted-end _ _ l.j (omega arith)) l.invariant.3
+    rw (← granted-end _ _ l.j (omega arith)) l.invariant.1

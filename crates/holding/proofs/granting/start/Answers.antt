@@ -9,8 +9,8 @@ use Rattle.holding.proofs.granting.start.Goals as goal
 pub set-requires : goal.set-requires
 set-requires c =
     let s = read c.args.s.now in
-    let l = handle_made s c.args.t (sound_by_name s c.requires.1) c.requires.2.0 in
-    omega (arith, l, c.requires.0)
+    let l = handle_made s c.args.t (sound_by_name s c.requires.0) c.requires.1.0 in
+    omega (arith, l)
 
 pub returns : goal.returns
 unfolding start

@@ -12,5 +12,5 @@ returns c =
     let r = row (read c.args.s.now) (c.args.t * 16 + c.args.j) in
     let v : c.mark_after.result ≡ mark_row c.args.t c.args.b (c.args.t * 16 + c.args.j) r =
     (rw (c.get-mark.ensures, c.get-payload.ensures) at c.mark_after.ensures)
-    ∙ mark_row-own c.args.t c.args.b c.args.j r c.requires.2 in
+    ∙ mark_row-own c.args.t c.args.b c.args.j r c.requires.1 in
     rw (← v) c.set.ensures

@@ -12,8 +12,6 @@ pub loop-j-init : goal.loop-j-init
 loop-j-init c =
     let a = c.args in (
       omega arith,
-      omega arith,
-      omega arith,
       rw
           (own_begin (read a.s.now) a.t (mark_row a.t a.b) (mark_row-other (read a.s.now) a.t a.b)) (wrote_none _),
     )
@@ -23,12 +21,9 @@ loop-j-preserved c =
     let f = c.drop_slot in
     let l = c.loop-j in
     let i = l.invariant in
-    (omega arith, i.1, i.2, rw (← add_assoc, ← row_next _ _ _ _ _ i.3.reading) (wrote_then i.3 f.ensures))
-
-pub shape_of-s : goal.shape_of-s
-shape_of-s c = c.loop-j.invariant.3.same_length
+    (i.0, rw (← add_assoc, ← row_next _ _ _ _ _ i.1.reading) (wrote_then i.1 f.ensures))
 
 pub returns : goal.returns
 returns c =
     let l = c.loop-j in
-    rw (← slots_end _ _ _ l.j (omega arith)) l.invariant.3
+    rw (← slots_end _ _ _ l.j (omega arith)) l.invariant.1

@@ -1,6 +1,5 @@
 -- `holding::letting::let_go_all` meets its contract: the three parts, one behind the other (`wrote_next`), are `let_go`
 -- (`let_go_all`); each leaves what the next requires (`after-slots`, `after-made`, `active_made`).
-use native.Mathlib.Omega.{arith}
 use Rattle.session.specs.Table.{read}
 use Rattle.rules.specs.Effects.{bury_doomed}
 use Rattle.laws.specs.Puts.{wrote_next}
@@ -11,19 +10,18 @@ pub drop_all_made-requires : goal.drop_all_made-requires
 drop_all_made-requires c =
     let a = c.args in
     let w = c.drop_slots.ensures in
-    let y = rw (← w.reading) at (after-slots (read a.s.now) a.t 0 c.requires.1 c.requires.3) in
-    (omega (arith, w.same_length, c.requires.0), y.0, y.1)
+    let y = rw (← w.reading) at (after-slots (read a.s.now) a.t 0 c.requires.0 c.requires.2) in
+    (y.0, y.1)
 
 pub bury_all-requires : goal.bury_all-requires
 bury_all-requires c =
     let a = c.args in
     let w = wrote_next (λ r. made_let_go r a.t) c.drop_slots.ensures c.drop_all_made.ensures in
-    let y = rw (← w.reading) at (after-made (read a.s.now) a.t 0 c.requires.1 c.requires.4) in (
-      omega (arith, w.same_length, c.requires.0),
+    let y = rw (← w.reading) at (after-made (read a.s.now) a.t 0 c.requires.0 c.requires.3) in (
       y.0,
       y.1,
       rw (← w.reading) at
-          (active_made (read a.s.now) a.t 0 c.requires.5),
+          (active_made (read a.s.now) a.t 0 c.requires.4),
     )
 
 pub returns : goal.returns

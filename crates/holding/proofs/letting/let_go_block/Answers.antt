@@ -1,6 +1,5 @@
 -- `holding::letting::let_go_block` meets its contract: the three parts, one behind the other (`wrote_next`), are `release`, since
 -- every doomed block is held (`let_go-one`); the first two leave what `bury` requires (`after_one`, `active_one`).
-use native.Mathlib.Omega.{arith}
 use Rattle.session.specs.Table.{read, put}
 use Rattle.session.specs.declared.Field.TheVariants.{BlockHeld, BlockState}
 use Rattle.rules.specs.Effects.{release}
@@ -14,19 +13,18 @@ bury-requires c =
     let a = c.args in
     let w = wrote_next (λ r. put r BlockHeld a.b (made_row a.t a.b (row r a.b))) c.drop_slots.ensures
     c.drop_made.ensures in (
-      omega (arith, w.same_length, c.requires.0),
       rw (← w.reading) at
-          (after_one (read a.s.now) a.t a.b c.requires.1),
-      c.requires.4,
+          (after_one (read a.s.now) a.t a.b c.requires.0),
+      c.requires.3,
       rw (← w.reading) at
-          (active_one (read a.s.now) a.t a.b c.requires.6),
+          (active_one (read a.s.now) a.t a.b c.requires.5),
     )
 
 pub returns : goal.returns
 unfolding release
 returns c =
     let a = c.args in
-    rw (← let_go-one (read a.s.now) a.t a.b c.requires.3 c.requires.5)
+    rw (← let_go-one (read a.s.now) a.t a.b c.requires.2 c.requires.4)
     (wrote_next (λ r. put r BlockState a.b (buried r a.b))
     (wrote_next (λ r. put r BlockHeld a.b (made_row a.t a.b (row r a.b))) c.drop_slots.ensures
     c.drop_made.ensures)

@@ -10,9 +10,8 @@ use Rattle.holding.proofs.letting.release.Goals as goal
 pub let_go_block-requires : goal.let_go_block-requires
 let_go_block-requires c =
     let ws = c.args.s.now in
-    let sound = c.requires.1 in
-    let m = c.requires.2 in (
-      c.requires.0,
+    let sound = c.requires.0 in
+    let m = c.requires.1 in (
       (sound_by_name (read ws) sound counts).1.0,
       handle_made (read ws) c.args.caller (sound_by_name (read ws) sound)
           m.0.0,

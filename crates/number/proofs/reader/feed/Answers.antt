@@ -2,8 +2,8 @@
 use mathlib.Core.Path.{sym, ap, ◌∙◌}
 use native.Mathlib.Omega.{arith}
 use Rattle.number.specs.Fed.{spoilt}
-use Rattle.number.specs.FedCases.{fits-only, short_nonzero}
-use Rattle.number.specs.FedCases.{fed_bad, fed-whole, fed_on, onward_bad, onward_heavy, onward-next}
+use Rattle.number.specs.FedCases.{fits-only}
+use Rattle.number.specs.FedCases.{fed_bad, fed_on, onward_bad, onward_heavy, onward-next}
 use Rattle.number.specs.declared.reader.Fed.TheVariants.{More}
 use Rattle.number.proofs.reader.feed.Goals as goal
 
@@ -29,13 +29,6 @@ overflow_add-value c =
     let a = c.args in
     let f = sym c.group_fits.ensures ∙ c.if-not-group_fits.false in
     rw c.group.ensures (omega (arith, fits-only a.limit a.reader a.byte f))
-
-pub returns-else-byte-eq0 : goal.returns-else-byte-eq0
-returns-else-byte-eq0 c =
-    let a = c.args in
-    let f = sym c.group_fits.ensures ∙ c.if-not-group_fits.false in
-    rw c.group.ensures
-    (sym (fed-whole a.limit a.reader a.byte c.if-byte-lt128-2.true f (short_nonzero _ _ (omega arith))))
 
 pub returns-then-limit-weight : goal.returns-then-limit-weight
 unfolding spoilt

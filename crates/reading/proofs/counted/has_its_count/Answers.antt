@@ -1,7 +1,6 @@
 -- `reading::counted::has_its_count` meets its contract: another type is `wrong`; else what `links_from` counted decides (`at_most`).
 use Rattle.reading.specs.TestLaws.{after, at_most, wrong}
 use native.Mathlib.Omega.{arith}
-use borrow.Author.Rules.{rules}
 use Rattle.reading.proofs.counted.has_its_count.Goals as goal
 
 pub returns-then-of_object-ne-COUNTED : goal.returns-then-of_object-ne-COUNTED

@@ -1,14 +1,10 @@
 -- `reading::counted::lacks_one` meets its contract: another type is `wrong`; else what `links_from` counted decides (`equals`).
 use Rattle.reading.specs.TestLaws.{after, equals, wrong}
 use native.Mathlib.Omega.{arith}
-use borrow.Author.Rules.{rules}
 use Rattle.reading.proofs.counted.lacks_one.Goals as goal
 
 pub returns-then-of_object-ne-COUNTED : goal.returns-then-of_object-ne-COUNTED
 returns-then-of_object-ne-COUNTED c = wrong _ (λ x. let e = x.0 in omega arith)
-
-pub overflow_add-result : goal.overflow_add-result
-overflow_add-result c = omega (arith, c.links_from.ensures.few)
 
 pub returns : goal.returns
 returns c =

@@ -1,7 +1,6 @@
 -- `reading::holders::is_holder` meets its contract: granted is the first side of the `or` (`right`), and of any other state the
 -- second decides (`beside`).
 use Rattle.reading.specs.TestLaws.{beside, equals, right}
-use borrow.Author.Rules.{rules}
 use mathlib.Core.Logic.{inl}
 use mathlib.Core.Path.{◌∙◌, sym}
 use native.Mathlib.Omega.{arith}

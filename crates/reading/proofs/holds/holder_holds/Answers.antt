@@ -1,28 +1,15 @@
 -- `reading::holds::holder_holds` meets its contract: a slot that holds b passes it (`right`). Else none below j does (`pass_more`),
 -- and none from the count of the pre-slots on (`Active`), so that at the end none does (`wrong`).
-use Prim.Native.Nat.{◌-◌, ◌≤◌}
-use mathlib.Core.Path.{◌≡◌, refl}
+use mathlib.Core.Path.{refl}
 use native.Mathlib.Omega.{arith}
-use borrow.Author.Rules.{rules}
-use lib.ListN.{length}
-use Rattle.session.specs.Names.{most_objects}
-use Rattle.session.specs.Table.{read, words, at}
-use Rattle.session.specs.declared.Field.TheVariants.{Objects, TaskSlots}
-use Rattle.rules.specs.Reading.{slot_holds}
-use Rattle.reading.specs.Holders.{Passed, pass_none, pass_more}
-use Rattle.reading.specs.Holds.{Active}
+use Rattle.reading.specs.Holders.{pass_more}
 use Rattle.reading.specs.TestLaws.{no, right, wrong, yes}
 use Rattle.reading.proofs.holds.holder_holds.Goals as goal
-
-pub loop-j-init : goal.loop-j-init
-loop-j-init c =
-    let p = c.requires in
-    (p.0, p.1, c.get-n.ensures, p.2, p.3, omega arith, pass_none _ _ _ refl)
 
 pub returns-then-n-j : goal.returns-then-n-j
 returns-then-n-j c =
     let i = c.loop-j.invariant in
-    wrong _ (λ x. i.6.none x.0 (omega (arith, i.2, c.if-n-j.true, (i.4 _ x.0 i.3 x.1 x.2.0).1)) (omega arith)
+    wrong _ (λ x. i.5.none x.0 (omega (arith, i.2, c.if-n-j.true, (i.4 _ x.0 i.3 x.1 x.2.0).1)) (omega arith)
     x.2)
 
 pub returns-then-slot_holds : goal.returns-then-slot_holds
@@ -38,11 +25,10 @@ loop-j-preserved c =
       i.2,
       i.3,
       i.4,
-      omega arith,
-      pass_more _ _ _ _ refl i.6 (no _ c.slot_holds.ensures c.if-slot_holds.false),
+      pass_more _ _ _ _ refl i.5 (no _ c.slot_holds.ensures c.if-slot_holds.false),
     )
 
 pub returns : goal.returns
 returns c =
     let i = c.loop-j.invariant in
-    wrong _ (λ x. i.6.none x.0 (omega (arith, x.1, c.loop-j-test.false)) (omega arith) x.2)
+    wrong _ (λ x. i.5.none x.0 (omega (arith, x.1)) (omega arith) x.2)

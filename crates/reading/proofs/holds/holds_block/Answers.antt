@@ -2,7 +2,6 @@
 -- there are none past the last handle (`no_slots`).
 use Rattle.reading.specs.Holds.{no_slots}
 use Rattle.reading.specs.TestLaws.{ahead, no, right, wrong, yes}
-use borrow.Author.Rules.{rules}
 use mathlib.Core.Logic.{inr}
 use Rattle.reading.proofs.holds.holds_block.Goals as goal
 

@@ -1,6 +1,5 @@
 -- `reading::holds::holds_made` meets its contract: not held by its maker is `wrong`; else by the creator (`after`, `equals`).
 use Rattle.reading.specs.TestLaws.{after, equals, wrong}
-use borrow.Author.Rules.{rules}
 use native.Mathlib.Omega.{arith}
 use Rattle.reading.proofs.holds.holds_made.Goals as goal
 

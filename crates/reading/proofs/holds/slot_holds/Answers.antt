@@ -6,7 +6,6 @@ use Rattle.session.specs.Names.{held}
 use Rattle.session.specs.declared.Field.TheVariants.{SlotMark, SlotPayload}
 use Rattle.rules.specs.Formula.{test, Formula.◌≐◌}
 use Rattle.rules.specs.FormulaLaws.{fails, test_and}
-use borrow.Author.Rules.{rules}
 use Rattle.reading.proofs.holds.slot_holds.Goals as goal
 
 pub returns-then-get-ne-HELD : goal.returns-then-get-ne-HELD

@@ -1,19 +1,13 @@
 -- `reading::holds::task_holds` meets its contract: a slot that holds b passes it (`right`). Else none below j does (`pass_more`), and
 -- at the end none does (`wrong`).
-use Prim.Native.Nat.{◌-◌, ◌≤◌}
-use mathlib.Core.Path.{refl}
-use native.Mathlib.Omega.{arith}
+use Prim.Native.Nat.{◌≤◌}
 use lib.ListN.{length}
 use Rattle.session.specs.Names.{most_objects}
 use Rattle.session.specs.Table.{read, words, at}
 use Rattle.rules.specs.Reading.{slot_holds}
-use Rattle.reading.specs.Holders.{Passed, pass_none, pass_more}
-use Rattle.reading.specs.TestLaws.{no, right, wrong, yes}
+use Rattle.reading.specs.Holders.{Passed}
 use Rattle.reading.proofs.holds.task_holds.Given as goal
 
 abbrev pub invariant-loop-j : goal.invariant-loop-j
 invariant-loop-j l =
-    (words ≤ length l.s) × (l.h ≤ most_objects) × (l.j ≤ 16) × Passed (λ k. slot_holds (read l.s) l.b (at l.h k)) 0 l.j
-
-abbrev pub decreases-loop-j : goal.decreases-loop-j
-decreases-loop-j l = 16 - l.j
+    (words ≤ length l.s) × (l.h ≤ most_objects) × Passed (λ k. slot_holds (read l.s) l.b (at l.h k)) 0 l.j

@@ -1,7 +1,6 @@
 -- The three reasons, in the order of the formula.
 use Rattle.reading.specs.TestLaws.{beside, no, right, yes}
 use Rattle.rules.specs.Effects.{drops}
-use borrow.Author.Rules.{rules}
 use mathlib.Core.Logic.{inl, inr}
 use Rattle.reading.proofs.objects.drops.Goals as goal
 

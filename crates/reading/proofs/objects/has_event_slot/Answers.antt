@@ -1,5 +1,4 @@
 -- `reading::objects::has_event_slot` meets its contract: of an event its type decides (`event-slot`).
-use borrow.Author.Rules.{rules}
 use Rattle.session.specs.Table.{read}
 use Rattle.reading.specs.SlotsByKind.{event-slot}
 use Rattle.reading.proofs.objects.has_event_slot.Goals as goal

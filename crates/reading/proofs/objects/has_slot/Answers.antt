@@ -1,6 +1,5 @@
 -- `reading::objects::has_slot` meets its contract: kind by kind (`task-slot`, `has_event_slot`); of another kind none has (`other-slot`).
 use mathlib.Core.Path.{◌∙◌, sym}
-use borrow.Author.Rules.{rules}
 use Rattle.session.specs.Table.{read}
 use Rattle.rules.specs.Bools.{test_lt}
 use Rattle.reading.specs.TestLaws.{wrong}
@@ -12,12 +11,6 @@ returns-then-kind-eq-TASK c =
     let a = c.args in
     rw c.of_object.ensures
     (sym (test_lt _ _) ∙ task-slot (read a.s.now) a.h a.j (sym c.of_object-kind.ensures ∙ c.if-kind-eq-TASK.true))
-
-pub has_event_slot-requires : goal.has_event_slot-requires
-has_event_slot-requires c = (search rules, sym c.of_object-kind.ensures ∙ c.if-kind-eq-EVENT.true)
-
-pub returns-then-kind-eq-EVENT : goal.returns-then-kind-eq-EVENT
-returns-then-kind-eq-EVENT c = c.has_event_slot.ensures
 
 pub returns : goal.returns
 returns c =

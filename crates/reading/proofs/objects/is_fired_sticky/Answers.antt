@@ -1,6 +1,5 @@
 -- `reading::objects::is_fired_sticky` meets its contract: no event or no such type is `wrong`; else the state decides (`after`).
 use Rattle.reading.specs.TestLaws.{after, equals, no, wrong, yes}
-use borrow.Author.Rules.{rules}
 use Rattle.reading.proofs.objects.is_fired_sticky.Goals as goal
 
 pub returns-then-not-is_kind : goal.returns-then-not-is_kind

@@ -2,7 +2,6 @@
 use Rattle.reading.specs.Gone.{block-gone, event-gone, gone_by, task-gone, template-gone}
 use Rattle.reading.specs.TestLaws.{at_most, wrong}
 use Rattle.session.specs.Table.{read}
-use borrow.Author.Rules.{rules}
 use mathlib.Core.Path.{◌∙◌, sym}
 use native.Mathlib.Omega.{arith}
 use Rattle.reading.proofs.objects.is_gone.Goals as goal

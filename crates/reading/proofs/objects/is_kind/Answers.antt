@@ -1,6 +1,5 @@
 -- `reading::objects::is_kind` meets its contract: the kind is read, and the comparison is the formula's test (`equals`).
 use Rattle.reading.specs.TestLaws.{equals}
-use borrow.Author.Rules.{rules}
 use Rattle.reading.proofs.objects.is_kind.Goals as goal
 
 pub returns : goal.returns

@@ -1,6 +1,5 @@
 -- `reading::objects::is_live` meets its contract: no task fails (`fails`); else the state decides (`test_and`).
 use mathlib.Core.Path.{sym, ◌∙◌}
-use borrow.Author.Rules.{rules}
 use native.Mathlib.Omega.{arith}
 use Rattle.rules.specs.FormulaLaws.{fails, test_and}
 use Rattle.session.specs.Table.{read}

@@ -1,5 +1,4 @@
 -- `reading::objects::is_made` meets its contract: the count is read, and the two bounds are the formula (`simp` with Bools).
-use borrow.Author.Rules.{rules}
 use Rattle.rules.specs.Bools.{test-both, test_le}
 use Rattle.reading.proofs.objects.is_made.Goals as goal
 

@@ -1,6 +1,5 @@
 -- `reading::objects::is_running` meets its contract: not made or no task is `wrong`; else the state decides (`after`, `equals`).
 use Rattle.reading.specs.TestLaws.{after, equals, no, wrong, yes}
-use borrow.Author.Rules.{rules}
 use Rattle.reading.proofs.objects.is_running.Goals as goal
 
 pub returns-then-not-is_made : goal.returns-then-not-is_made

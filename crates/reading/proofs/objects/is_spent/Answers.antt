@@ -1,6 +1,5 @@
 -- `reading::objects::is_spent` meets its contract: destroyed is `right`, not fired `wrong`; else by the type (`beside`, `after`).
 use Rattle.reading.specs.TestLaws.{after, beside, right, wrong}
-use borrow.Author.Rules.{rules}
 use mathlib.Core.Logic.{inl, ⊎_elim}
 use native.Mathlib.Omega.{arith}
 use Rattle.reading.proofs.objects.is_spent.Goals as goal

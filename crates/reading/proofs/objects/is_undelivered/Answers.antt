@@ -1,7 +1,6 @@
 -- `reading::objects::is_undelivered` meets its contract: an open link passes (`passes`); else being ready decides (`test_or`).
 use mathlib.Core.Path.{sym, ◌∙◌}
 use mathlib.Core.Logic.{inl}
-use borrow.Author.Rules.{rules}
 use Rattle.rules.specs.FormulaLaws.{passes, test_or}
 use Rattle.session.specs.Table.{read}
 use Rattle.rules.specs.Reading.{is_undelivered}

@@ -1,5 +1,4 @@
 -- `reading::objects::is_user_event` meets its contract: kind and type are read, `is_user_type` judges it (`simp` with Bools).
-use borrow.Author.Rules.{rules}
 use Rattle.rules.specs.Bools.{test-both, test_eq}
 use Rattle.reading.proofs.objects.is_user_event.Goals as goal
 

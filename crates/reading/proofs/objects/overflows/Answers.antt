@@ -1,6 +1,5 @@
 -- `reading::objects::overflows` meets its contract: no latch or no such slot is `wrong`; else the tally decides (`test-same`).
 use Rattle.reading.specs.TestLaws.{after, equals, no, wrong, yes}
-use borrow.Author.Rules.{rules}
 use mathlib.Core.Logic.{inl, inr, ⊎_elim}
 use mathlib.Core.Path.{◌∙◌}
 use native.Mathlib.Omega.{arith}

@@ -1,6 +1,5 @@
 -- `reading::objects::task_slots` meets its contract: 17 takes the template's count (`choose_yes`), another n stays (`choose_no`).
 use Rattle.rules.specs.FormulaLaws.{choose_no, choose_yes}
-use borrow.Author.Rules.{rules}
 use mathlib.Core.Path.{◌∙◌, sym}
 use Rattle.reading.proofs.objects.task_slots.Goals as goal
 

@@ -1,39 +1,30 @@
--- `retiring::children::is_below` meets its contract: each call goes to a lower handle. A creator that is a decides (`below_here`), and so
--- does a lower one (`below_none`); else it is as for the creator (`below_more`).
-use mathlib.Core.Path.{sym, ◌∙◌}
+-- `retiring::children::is_below` meets its contract: each call goes to a lower handle. With a creator higher than a it is as for the
+-- creator (`below_more`); else a creator that is a decides (`below_here`), and so does a lower one (`below_none`).
+use mathlib.Core.Path.{◌∙◌}
 use native.Mathlib.Omega.{arith}
 use Rattle.session.specs.Table.{read}
-use Rattle.rules.specs.FormulaLaws.{passes, fails}
-use Rattle.retiring.specs.Children.{below_here, below_none, below_more}
+use Rattle.retiring.specs.Children.{below_more, below_least}
 use Rattle.retiring.proofs.children.+is_below.Goals as goal
-
-pub returns-then-c-a : goal.returns-then-c-a
-returns-then-c-a t c =
-    let p = c.requires in
-    let e = sym c.get-c.ensures ∙ c.if-c-a.true in
-    sym (passes _ (below_here (read c.args.s.now) p.1 c.args.d c.args.a p.2 p.3 e))
-
-pub returns-then-c-a-2 : goal.returns-then-c-a-2
-returns-then-c-a-2 t c =
-    let p = c.requires in
-    let e = c.get-c.ensures in
-    let low = c.if-c-a-2.true in
-    sym (fails _ (below_none (read c.args.s.now) p.1 c.args.d c.args.a p.2 p.3 (omega (arith, e, low))))
 
 pub is_below-requires : goal.is_below-requires
 is_below-requires t c =
     let p = c.requires in
     let e = c.get-c.ensures in
-    let high = c.if-c-a-2.false in
-    let f = p.1.frame.falls c.args.d p.3 (omega (arith, e, high, p.2)) in
-    (omega (arith, f, e, c.decreases), (p.0, p.1, p.2, omega (arith, f, e, p.3)))
+    let high = c.if-a-c.true in
+    let f = p.0.frame.falls c.args.d p.2 (omega (arith, e, high)) in
+    (omega (arith, f, e, c.decreases), (p.0, p.1, omega (arith, f, e, p.2)))
 
-pub returns : goal.returns
-returns t c =
+pub returns-then-a-c : goal.returns-then-a-c
+returns-then-a-c t c =
     let p = c.requires in
-    let s = read c.args.s.now in
     let e = c.get-c.ensures in
-    let other = c.if-c-a.false in
-    let high = c.if-c-a-2.false in
+    let high = c.if-a-c.true in
     rw e at c.is_below.ensures
-    ∙ below_more s p.1 c.args.d c.args.a p.2 p.3 (omega (arith, e, high, other))
+    ∙ below_more (read c.args.s.now) p.0 c.args.d c.args.a p.1 p.2 (omega (arith, e, high))
+
+pub returns-else-a-c : goal.returns-else-a-c
+returns-else-a-c t c =
+    let p = c.requires in
+    let e = c.get-c.ensures in
+    let low = c.if-a-c.false in
+    rw e (below_least (read c.args.s.now) p.0 c.args.d c.args.a p.1 p.2 (omega (arith, e, low)))

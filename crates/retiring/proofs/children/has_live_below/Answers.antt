@@ -12,27 +12,19 @@ pub loop-d-init : goal.loop-d-init
 loop-d-init c =
     let p = c.requires in
     let s = read c.args.s.now in
-    (p.0, p.1, p.2, c.get-n.ensures, omega arith, λ i b y. none_below s p.1 i c.args.a p.2 (omega arith) b y.1)
-
-pub is_live_below-requires : goal.is_live_below-requires
-is_live_below-requires c =
-    let i = c.loop-d.invariant in
-    (i.0, i.1, i.2, omega arith)
+    (p.0, p.1, c.get-n.ensures, λ i b y. none_below s p.0 i c.args.a p.1 (omega (arith, p.2)) b y.1)
 
 pub returns-then-is_live_below : goal.returns-then-is_live_below
 returns-then-is_live_below c =
     let l = c.loop-d in
     sym (passes _ (l.d, omega arith, passed _ (sym c.is_live_below.ensures ∙ c.if-is_live_below.true)))
 
-pub overflow_add-d : goal.overflow_add-d
-overflow_add-d c = let few = c.loop-d.invariant.1.frame.few in omega arith
-
 pub loop-d-preserved : goal.loop-d-preserved
 loop-d-preserved c =
     let i = c.loop-d.invariant in
-    (i.0, i.1, i.2, i.3, omega arith, below_more _ _ i.5 (failed _ (sym c.is_live_below.ensures ∙ c.if-is_live_below.false)))
+    (i.0, i.1, i.2, below_more _ _ i.3 (failed _ (sym c.is_live_below.ensures ∙ c.if-is_live_below.false)))
 
 pub returns : goal.returns
 returns c =
     let l = c.loop-d in
-    sym (fails _ (λ x. l.invariant.5 x.0 (let b = x.1 in omega arith) x.2))
+    sym (fails _ (λ x. l.invariant.3 x.0 (let b = x.1 in omega (arith, l.invariant.2)) x.2))

@@ -6,8 +6,8 @@ use Rattle.rules.specs.FormulaLaws.{failed, fails}
 use Rattle.retiring.specs.Children.{childless_idle, no_child}
 use Rattle.retiring.proofs.children.is_busy.Goals as goal
 
-pub returns : goal.returns
-returns c =
+pub returns-else-has_child : goal.returns-else-has_child
+returns-else-has_child c =
     let s = read c.args.s.now in
     let none = failed _ (sym c.has_child.ensures ∙ c.if-has_child.false) in
-    sym (fails _ (childless_idle s c.requires.1 c.args.a (no_child s c.requires.1 c.args.a none)))
+    c.if-has_child.false ∙ sym (fails _ (childless_idle s c.requires.0 c.args.a (no_child s c.requires.0 c.args.a none)))

@@ -8,4 +8,4 @@ use Rattle.retiring.proofs.children.is_busy_above.Goals as goal
 pub returns-then-has_child : goal.returns-then-has_child
 returns-then-has_child c =
     let child = passed _ (sym c.has_child.ensures ∙ c.if-has_child.true) in
-    sym (passes _ (live_child (read c.args.s.now) c.requires.1 c.args.a c.requires.2 child))
+    c.if-has_child.true ∙ sym (passes _ (live_child (read c.args.s.now) c.requires.0 c.args.a c.requires.1 child))

@@ -12,11 +12,11 @@ returns-then-get-a c =
     let p = c.requires in
     let low = c.if-get-a.true in
     let e = c.get.ensures in
-    sym (fails _ (λ y. below_none (read c.args.s.now) p.1 c.args.d c.args.a p.2 p.3 (omega (arith, e, low)) y.1))
+    sym (fails _ (λ y. below_none (read c.args.s.now) p.0 c.args.d c.args.a p.1 p.2 (omega (arith, e, low)) y.1))
 
 pub returns : goal.returns
 returns c =
     let p = c.requires in
     let e = c.get-2.ensures in
     c.is_below.ensures
-    ∙ live_below (read c.args.s.now) p.1 c.args.d c.args.a p.2 p.3 (omega (arith, e))
+    ∙ live_below (read c.args.s.now) p.0 c.args.d c.args.a p.1 p.2 (omega (arith, e))

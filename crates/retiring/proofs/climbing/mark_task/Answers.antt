@@ -9,33 +9,32 @@ use Rattle.retiring.specs.Finish.{finishes-waits}
 use Rattle.retiring.specs.Climb.{event-made, climbed_past, climbed-mark}
 use Rattle.retiring.proofs.climbing.mark_task.Goals as goal
 
+pub returns-then-not-task_waits : goal.returns-then-not-task_waits
+returns-then-not-task_waits c =
+    let a = c.args in
+    let p = c.requires in
+    let s = read a.s.now in
+    climbed_past s p.0 a.h p.3.known a.fires.now a.found p.1 p.3
+    (failed _ (sym (finishes-waits s a.h p.2) ∙ sym c.task_waits.ensures ∙ c.if-not-task_waits.true))
+
 pub bounds-fires-h : goal.bounds-fires-h
 bounds-fires-h c =
     let p = c.requires in
-    let f = passed _ (sym c.task_waits.ensures ∙ c.if-task_waits.true) in
-    omega (arith, (event-made _ p.1 _ f.0).1, p.1.frame.few, p.4)
+    let f = passed _ (sym c.task_waits.ensures ∙ c.if-not-task_waits.false) in
+    omega (arith, (event-made _ p.0 _ f.0).1, p.0.frame.few)
 
-pub returns-then-found-eq0 : goal.returns-then-found-eq0
-returns-then-found-eq0 c =
+pub returns-in-Nothing : goal.returns-in-Nothing
+returns-in-Nothing c =
     let a = c.args in
     let p = c.requires in
     let s = read a.s.now in
-    let f = passed _ (sym (finishes-waits s a.h p.3) ∙ sym c.task_waits.ensures ∙ c.if-task_waits.true) in
-    climbed-mark s p.1 a.h p.5.known a.fires.now a.found p.2 p.5 f p.4 _
-    (inl (c.if-found-eq0.true, refl))
+    let f = passed _ (sym (finishes-waits s a.h p.2) ∙ sym c.task_waits.ensures ∙ c.if-not-task_waits.false) in
+    climbed-mark s p.0 a.h p.3.known a.fires.now a.found p.1 p.3 f c.told-fires _ (inl (c.in-Nothing.is, refl))
 
-pub returns-then-task_waits : goal.returns-then-task_waits
-returns-then-task_waits c =
+pub returns-in_default : goal.returns-in_default
+returns-in_default c =
     let a = c.args in
     let p = c.requires in
     let s = read a.s.now in
-    let f = passed _ (sym (finishes-waits s a.h p.3) ∙ sym c.task_waits.ensures ∙ c.if-task_waits.true) in
-    climbed-mark s p.1 a.h p.5.known a.fires.now a.found p.2 p.5 f p.4 _ (inr refl)
-
-pub returns : goal.returns
-returns c =
-    let a = c.args in
-    let p = c.requires in
-    let s = read a.s.now in
-    climbed_past s p.1 a.h p.5.known a.fires.now a.found p.2 p.5
-    (failed _ (sym (finishes-waits s a.h p.3) ∙ sym c.task_waits.ensures ∙ c.if-task_waits.false))
+    let f = passed _ (sym (finishes-waits s a.h p.2) ∙ sym c.task_waits.ensures ∙ c.if-not-task_waits.false) in
+    climbed-mark s p.0 a.h p.3.known a.fires.now a.found p.1 p.3 f c.told-fires _ (inr refl)

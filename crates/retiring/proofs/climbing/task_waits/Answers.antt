@@ -1,9 +1,13 @@
 -- `retiring::climbing::task_waits` meets its contract: each early return denies one part of `waits` (`fails`), the third since
--- past the last handle nothing is made; past all of them the five parts read are at hand (`passes`).
+-- past the last handle nothing is made; past all of them the last part decides (`test-same`).
 use mathlib.Core.Path.{sym, ◌∙◌}
 use Prim.Native.Nat.{◌+◌}
 use native.Mathlib.Omega.{arith}
-use Rattle.rules.specs.FormulaLaws.{passes, fails}
+use Rattle.session.specs.Table.{read}
+use Rattle.session.specs.Names.{output}
+use Rattle.rules.specs.Formula.{test, Formula.◌≐◌}
+use Rattle.rules.specs.FormulaLaws.{test-same, fails}
+use Rattle.retiring.specs.Finish.{waits}
 use Rattle.retiring.proofs.climbing.task_waits.Goals as goal
 
 pub returns-then-get-ne-ENDED : goal.returns-then-get-ne-ENDED
@@ -14,7 +18,7 @@ returns-then-get-ne1 c = sym (fails _ (λ x. c.if-get-ne1.true (c.get-2.ensures 
 
 pub returns-then-h-ge-MOST_OBJECTS : goal.returns-then-h-ge-MOST_OBJECTS
 returns-then-h-ge-MOST_OBJECTS c =
-    let f = c.requires.1.frame in
+    let f = c.requires.0.frame in
     sym (fails _ (λ y. let z = f.unmade (c.args.h + 1) (omega (arith, f.few, c.if-h-ge-MOST_OBJECTS.true)) in omega (arith, z, y.0)))
 
 pub returns-then-get-ne-OPEN : goal.returns-then-get-ne-OPEN
@@ -23,18 +27,17 @@ returns-then-get-ne-OPEN c = sym (fails _ (λ x. c.if-get-ne-OPEN.true (c.get-3.
 pub returns-then-get-ne-EVENT : goal.returns-then-get-ne-EVENT
 returns-then-get-ne-EVENT c = sym (fails _ (λ x. c.if-get-ne-EVENT.true (c.get-4.ensures ∙ x.0)))
 
-pub returns-then-get-ne-OUTPUT : goal.returns-then-get-ne-OUTPUT
-returns-then-get-ne-OUTPUT c = sym (fails _ (λ x. c.if-get-ne-OUTPUT.true (c.get-5.ensures ∙ x.1.0)))
-
 pub returns : goal.returns
+unfolding test
 returns c =
-    sym (passes _ (
+    test-same (c.get-5.result ≐ output) (waits (read c.args.s.now) c.args.h) (λ q. (
       sym c.get-4.ensures ∙ c.if-get-ne-EVENT.false,
       (
-        sym c.get-5.ensures ∙ c.if-get-ne-OUTPUT.false,
+        sym c.get-5.ensures ∙ q,
         (
           sym c.get-3.ensures ∙ c.if-get-ne-OPEN.false,
           (sym c.get-2.ensures ∙ c.if-get-ne1.false, sym c.get.ensures ∙ c.if-get-ne-ENDED.false),
         ),
       ),
     ))
+    (λ x. c.get-5.ensures ∙ x.1.0)

@@ -1,6 +1,5 @@
 -- `retiring::destroying::destroy_block` meets its contract: what `let_go_block` wrote and the fate put behind it (`wrote_next`)
 -- are `destroy_block` (`destroy_block-parts`); letting go leaves what `fate_of` requires.
-use native.Mathlib.Omega.{arith}
 use Rattle.session.specs.Table.{read, put}
 use Rattle.session.specs.declared.Field.TheVariants.{BlockState}
 use Rattle.laws.specs.Puts.{wrote_next}
@@ -13,11 +12,10 @@ fate_of-state-requires c =
     let p = c.requires in
     let a = c.args in
     let w = c.let_go_block.ensures in (
-      omega (arith, w.same_length, p.0),
-      rw (← w.reading) at (few_release (read a.s.now) a.t a.b p.1),
-      p.4,
+      rw (← w.reading) at (few_release (read a.s.now) a.t a.b p.0),
+      p.3,
       rw
-          (← w.reading) at (active_release (read a.s.now) a.t a.b p.6),
+          (← w.reading) at (active_release (read a.s.now) a.t a.b p.5),
     )
 
 pub returns : goal.returns

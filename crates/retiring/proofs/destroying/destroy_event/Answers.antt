@@ -1,7 +1,6 @@
 -- `retiring::destroying::destroy_event` meets its contract: the state put and the links cut behind it (`wrote_next`) are
 -- `destroy_event` (`destroy_event-cut`); the state leaves the links as they were (`after_retire`).
 use mathlib.Core.Path.{◌≡◌}
-use native.Mathlib.Omega.{arith}
 use Rattle.session.specs.Table.{read}
 use Rattle.session.specs.declared.Field.TheVariants.{EventState}
 use Rattle.laws.specs.Puts.{wrote_next}
@@ -12,8 +11,8 @@ pub cut_links-requires : goal.cut_links-requires
 cut_links-requires c =
     let a = c.args in
     let w = c.set.ensures in
-    let y = rw (← w.reading) at (after_retire (read a.s.now) a.e c.retired_state.result c.requires.2 c.requires.3) in
-    (omega (arith, w.same_length, c.requires.0), y.0, y.1)
+    let y = rw (← w.reading) at (after_retire (read a.s.now) a.e c.retired_state.result c.requires.1 c.requires.2) in
+    y
 
 pub returns : goal.returns
 returns c =

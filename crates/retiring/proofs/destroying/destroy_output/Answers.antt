@@ -1,16 +1,9 @@
 -- `retiring::destroying::destroy_output` meets its contract: with an output, event t + 1 is destroyed (`output_yes`), a handle
 -- that `OutputLow` bounds; else nothing is written (`output_no`).
 use mathlib.Core.Path.{sym, ◌∙◌}
-use native.Mathlib.Omega.{arith}
 use Rattle.session.specs.TableLaws.{wrote_none}
 use Rattle.retiring.specs.RetiringParts.{output_yes, output_no}
 use Rattle.retiring.proofs.destroying.destroy_output.Goals as goal
-
-pub destroy_event-requires : goal.destroy_event-requires
-destroy_event-requires c =
-    let p = c.requires in
-    let l = p.3 (sym c.get.ensures ∙ c.if-get-eq1.true) in
-    (p.0, omega (arith, l), p.2.frame.few_links, p.2.no_more)
 
 pub returns-then-get-eq1 : goal.returns-then-get-eq1
 returns-then-get-eq1 c =

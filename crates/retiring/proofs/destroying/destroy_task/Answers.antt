@@ -23,11 +23,10 @@ destroy_output-requires c =
     let a = c.args in
     let s = read a.s.now in
     let w = c.set.ensures in (
-      omega (arith, w.same_length, p.0),
-      p.1,
-      rw (← w.reading) at (tidy_state s p.2 a.t task_destroyed (omega arith)),
+      p.0,
+      rw (← w.reading) at (tidy_state s p.1 a.t task_destroyed (omega arith)),
       rw
-          (← w.reading) at (low_state s a.t task_destroyed p.3),
+          (← w.reading) at (low_state s a.t task_destroyed p.2),
     )
 
 pub fire_over-requires : goal.fire_over-requires
@@ -38,16 +37,15 @@ fire_over-requires c =
     let w = wrote_next (λ r. output_destroyed r a.t) c.set.ensures c.destroy_output.ensures in
     let r = put s TaskState a.t task_destroyed in
     let q = output_destroyed r a.t in
-    let tidy = tidy_output_destroyed r a.t (tidy_state s p.2 a.t task_destroyed (omega arith)) in
+    let tidy = tidy_output_destroyed r a.t (tidy_state s p.1 a.t task_destroyed (omega arith)) in
     let own = own_destroyed s a.t r (own-state s a.t task_destroyed) in (
-      omega (arith, w.same_length, p.0),
       rw (← w.reading) at tidy,
-      p.4.0,
+      p.3.0,
       rw (← w.reading) at (destroyed_over s a.t),
       rw (← w.reading) at
-          (only_above s q a.t p.2 p.5 own p.4),
+          (only_above s q a.t p.1 p.4 own p.3),
       rw (← w.reading) at
-          (childless_idle q tidy a.t (childless_own s q a.t own p.6)),
+          (childless_idle q tidy a.t (childless_own s q a.t own p.5)),
     )
 
 pub returns : goal.returns

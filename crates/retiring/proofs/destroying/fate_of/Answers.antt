@@ -8,6 +8,6 @@ pub returns-then-is_held : goal.returns-then-is_held
 unfolding fate
 returns-then-is_held c = sym (choose_yes _ _ _ (passed _ (sym c.is_held.ensures ∙ c.if-is_held.true)))
 
-pub returns : goal.returns
+pub returns-else-is_held : goal.returns-else-is_held
 unfolding fate
-returns c = sym (choose_no _ _ _ (failed _ (sym c.is_held.ensures ∙ c.if-is_held.false)))
+returns-else-is_held c = sym (choose_no _ _ _ (failed _ (sym c.is_held.ensures ∙ c.if-is_held.false)))

@@ -19,23 +19,22 @@ use Rattle.retiring.proofs.ending.end.Goals as goal
 pub let_go_all-requires : goal.let_go_all-requires
 let_go_all-requires c =
     let ws = c.args.s.now in
-    let good = c.requires.1 in
-    let r = retirable ws c.args.t good c.requires.2.0.0 in
-    (c.requires.0, r.tidy.frame.few, r.handle, unheld ws good, unmarked ws good, active ws good)
+    let good = c.requires.0 in
+    let r = retirable ws c.args.t good c.requires.1.0.0 in
+    (r.tidy.frame.few, r.handle, unheld ws good, unmarked ws good, active ws good)
 
 pub set-requires : goal.set-requires
 set-requires c =
-    let r = retirable c.args.s.now c.args.t c.requires.1 c.requires.2.0.0 in
-    omega (arith, r.handle, c.requires.0, c.let_go_all.ensures.same_length)
+    let r = retirable c.args.s.now c.args.t c.requires.0 c.requires.1.0.0 in
+    omega (arith, r.handle)
 
 pub fire_output-requires : goal.fire_output-requires
 fire_output-requires c =
     let p = c.requires in
     let a = c.args in
-    let q = retirable a.s.now a.t p.1 p.2.0.0 in
+    let q = retirable a.s.now a.t p.0 p.1.0.0 in
     let s = read a.s.now in
     let w = wrote_next (λ r. put r TaskState a.t ended) c.let_go_all.ensures c.set.ensures in (
-      omega (arith, w.same_length, p.0),
       q.handle,
       rw (← w.reading) at (tidy_ending s a.t q.tidy),
       rw (← w.reading) at (low_ending s a.t q.low),
@@ -45,17 +44,16 @@ pub fire_finished-requires : goal.fire_finished-requires
 fire_finished-requires c =
     let p = c.requires in
     let a = c.args in
-    let q = retirable a.s.now a.t p.1 p.2.0.0 in
+    let q = retirable a.s.now a.t p.0 p.1.0.0 in
     let s = read a.s.now in
     let w = wrote_next (λ r. output_fired r a.t a.b)
     (wrote_next (λ r. put r TaskState a.t ended) c.let_go_all.ensures c.set.ensures) c.fire_output.ensures in
     let own = own-fired s a.t (ending s a.t) (own-ending s a.t) a.b in (
-      omega (arith, w.same_length, p.0),
       rw (← w.reading) at (tidy_output_fired (ending s a.t) a.t a.b (tidy_ending s a.t q.tidy)),
-      p.2.0.0.0,
+      p.1.0.0.0,
       rw (← w.reading) at (ended-over s a.t a.b),
       rw (← w.reading) at
-          (only_above s (output_fired (ending s a.t) a.t a.b) a.t q.tidy q.outputs own p.2.0.0),
+          (only_above s (output_fired (ending s a.t) a.t a.b) a.t q.tidy q.outputs own p.1.0.0),
     )
 
 pub returns : goal.returns

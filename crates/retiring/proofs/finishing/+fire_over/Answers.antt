@@ -16,7 +16,7 @@ pub fire_own-requires : goal.fire_own-requires
 fire_own-requires t c =
     let p = c.requires in
     let stop = c.stops_above.ensures.stops c.if-stops_above.true in
-    (p.0, p.1, p.4.known, p.5, own_alone (read c.args.s.now) p.1 c.args.t p.4.known p.4 stop)
+    (p.0, p.3.known, p.4, own_alone (read c.args.s.now) p.0 c.args.t p.3.known p.3 stop)
 
 pub returns-then-stops_above : goal.returns-then-stops_above
 returns-then-stops_above t c =
@@ -25,7 +25,7 @@ returns-then-stops_above t c =
     let stop = c.stops_above.ensures.stops c.if-stops_above.true in
     record {
       wrote = c.fire_own.ensures;
-      answer = c.first_step-steps.ensures ∙ sym (first_step s p.1 c.args.t p.4.known p.3 p.5 stop);
+      answer = c.first_step-steps.ensures ∙ sym (first_step s p.0 c.args.t p.3.known p.2 p.4 stop);
     }
 
 pub fire_over-requires : goal.fire_over-requires
@@ -35,15 +35,14 @@ fire_over-requires t c =
     let s = read c.args.s.now in
     let u = c.args.t in
     let on = c.stops_above.ensures.goes_on c.if-stops_above.false in
-    let ends = sym (finishes-waits s u p.5) ∙ sym c.task_waits.ensures ∙ c.if-task_waits.false in
-    let f = p.1.frame.falls u p.4.known on.0 in (
+    let ends = sym (finishes-waits s u p.4) ∙ sym c.task_waits.ensures ∙ c.if-task_waits.false in
+    let f = p.0.frame.falls u p.3.known on.0 in (
       omega (arith, f, e, c.decreases),
       (
         p.0,
-        p.1,
         omega (arith, e, on.0),
-        rw e (λ live. on.1.0 (p.1.frame.makers u p.4.known on.0, live)),
-        rw e (only_higher s p.1 u p.4.known p.4 on.1 on.0 (failed _ ends)),
+        rw e (λ live. on.1.0 (p.0.frame.makers u p.3.known on.0, live)),
+        rw e (only_higher s p.0 u p.3.known p.3 on.1 on.0 (failed _ ends)),
         rw e on.1.1,
       ),
     )
@@ -55,8 +54,8 @@ overflow_add-result t c =
     let u = c.args.t in
     let on = c.stops_above.ensures.goes_on c.if-stops_above.false in
     let few = climb_few (s TaskCreator) (is_over s) c.get-c.result c.get-c.result in
-    let fall = p.1.frame.falls u p.4.known on.0 in
-    omega (arith, c.fire_over.ensures.answer, few, c.get-c.ensures, fall, p.4.known, p.1.frame.few)
+    let fall = p.0.frame.falls u p.3.known on.0 in
+    omega (arith, c.fire_over.ensures.answer, few, c.get-c.ensures, fall, p.3.known, p.0.frame.few)
 
 pub returns : goal.returns
 returns t c =
@@ -64,6 +63,6 @@ returns t c =
     let s = read c.args.s.now in
     let u = c.args.t in
     let on = c.stops_above.ensures.goes_on c.if-stops_above.false in
-    let up = more_steps s p.1 u p.4.known p.3 p.5 on.0 in
+    let up = more_steps s p.0 u p.3.known p.2 p.4 on.0 in
     let same = ap (climbed s) c.get-c.ensures in
     record { wrote = c.fire_over.ensures.wrote; answer = omega (arith, c.fire_over.ensures.answer, up, same) }

@@ -1,6 +1,5 @@
 -- `retiring::finishing::fire_by_marks` meets its contract: what `fire_all_marked` wrote leaves a tidy session (`tidy_fired`), and
 -- what `ready_all_marked` wrote comes behind it (`wrote_next`).
-use native.Mathlib.Omega.{arith}
 use Rattle.session.specs.Table.{read}
 use Rattle.laws.specs.Puts.{wrote_next}
 use Rattle.retiring.specs.Finish.{links_ready, tidy_fired}
@@ -9,12 +8,7 @@ use Rattle.retiring.proofs.finishing.fire_by_marks.Goals as goal
 pub ready_all_marked-requires : goal.ready_all_marked-requires
 ready_all_marked-requires c =
     let p = c.requires in
-    let w = c.fire_all_marked.ensures in (
-      omega (arith, w.same_length, p.0),
-      rw (← w.reading) at
-          (tidy_fired (read c.args.s.now) c.args.fires.now p.1),
-      p.2,
-    )
+    rw (← c.fire_all_marked.ensures.reading) at (tidy_fired (read c.args.s.now) c.args.fires.now p.0)
 
 pub returns : goal.returns
 returns c =

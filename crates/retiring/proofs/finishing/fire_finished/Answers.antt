@@ -14,11 +14,11 @@ returns-then-is_busy c =
     let t = c.args.t in
     let b = passed _ (sym c.is_busy.ensures ∙ c.if-is_busy.true) in
     record {
-      wrote = rw (busy_none s p.1 t p.4.known p.4 b) (wrote_none _);
-      answer = sym (busy_steps s p.1 t p.4.known p.3 b);
+      wrote = rw (busy_none s p.0 t p.3.known p.3 b) (wrote_none _);
+      answer = sym (busy_steps s p.0 t p.3.known p.2 b);
     }
 
 pub fire_over-requires : goal.fire_over-requires
 fire_over-requires c =
     let p = c.requires in
-    (p.0, p.1, p.2, p.3, p.4, failed _ (sym c.is_busy.ensures ∙ c.if-is_busy.false))
+    (p.0, p.1, p.2, p.3, failed _ (sym c.is_busy.ensures ∙ c.if-is_busy.false))

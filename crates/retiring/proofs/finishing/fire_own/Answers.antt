@@ -16,21 +16,21 @@ pub fire_one-requires : goal.fire_one-requires
 fire_one-requires c =
     let p = c.requires in
     let w = passed _ (sym c.task_waits.ensures ∙ c.if-task_waits.true) in
-    let m = event-made (read c.args.s.now) p.1 _ w.0 in
-    (p.0, omega (arith, m.1, p.1.frame.few), p.1.frame.few_links, p.1.no_more)
+    let m = event-made (read c.args.s.now) p.0 _ w.0 in
+    (omega (arith, m.1, p.0.frame.few), p.0.frame.few_links, p.0.no_more)
 
 pub returns-then-task_waits : goal.returns-then-task_waits
 returns-then-task_waits c =
     let p = c.requires in
     let s = read c.args.s.now in
     let t = c.args.t in
-    let f = passed _ (sym (finishes-waits s t p.3) ∙ sym c.task_waits.ensures ∙ c.if-task_waits.true) in
-    rw (← one_fires s _ f p.4) c.fire_one.ensures
+    let f = passed _ (sym (finishes-waits s t p.2) ∙ sym c.task_waits.ensures ∙ c.if-task_waits.true) in
+    rw (← one_fires s _ f p.3) c.fire_one.ensures
 
 pub returns-else-task_waits : goal.returns-else-task_waits
 returns-else-task_waits c =
     let p = c.requires in
     let s = read c.args.s.now in
     let t = c.args.t in
-    let n = failed _ (sym (finishes-waits s t p.3) ∙ sym c.task_waits.ensures ∙ c.if-task_waits.false) in
-    rw (fires_nothing s (λ e f. n (subst (λ (k : ℕ). Holds (finishes s k)) (p.4 e f) f))) (wrote_none _)
+    let n = failed _ (sym (finishes-waits s t p.2) ∙ sym c.task_waits.ensures ∙ c.if-task_waits.false) in
+    rw (fires_nothing s (λ e f. n (subst (λ (k : ℕ). Holds (finishes s k)) (p.3 e f) f))) (wrote_none _)

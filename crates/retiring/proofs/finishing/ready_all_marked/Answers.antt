@@ -13,33 +13,27 @@ pub loop-l-init : goal.loop-l-init
 loop-l-init c =
     let p = c.requires in
     let e = c.get-n.ensures in
-    (omega arith, e, omega (arith, e, p.1.frame.few_links), p.0, p.2, p.1, rw sweep_zero (wrote_none _))
+    (e, omega (arith, e, p.frame.few_links), p, rw sweep_zero (wrote_none _))
 
 pub ready_marked-requires : goal.ready_marked-requires
 ready_marked-requires c =
     let l = c.loop-l in
     let i = l.invariant in
-    let e : read l.s LinkSource l.l ≡ read _ LinkSource l.l = ap (λ r. r LinkSource l.l) i.6.reading
+    let e : read l.s LinkSource l.l ≡ read _ LinkSource l.l = ap (λ r. r LinkSource l.l) i.3.reading
     ∙ sweep_beside _ LinkState l.l _ LinkSource l.l refl in (
-      omega (arith, i.6.same_length, i.3),
-      omega (arith, i.2, c.loop-l-test.true),
-      i.4,
-      omega
-          (arith, e, i.5.frame.sources l.l (omega (arith, i.1, c.loop-l-test.true))),
+      omega (arith, i.0, i.1),
+      omega (arith, e, i.2.frame.sources l.l (omega (arith, i.0))),
     )
 
 pub loop-l-preserved : goal.loop-l-preserved
 loop-l-preserved c =
     let f = c.ready_marked in
     let i = c.loop-l.invariant in
-    (omega arith, i.1, i.2, i.3, i.4, i.5, rw (← row_next _ _ _ _ _ i.6.reading) (wrote_then i.6 f.ensures))
-
-pub shape_of-s : goal.shape_of-s
-shape_of-s c = c.loop-l.invariant.6.same_length
+    (i.0, i.1, i.2, rw (← row_next _ _ _ _ _ i.3.reading) (wrote_then i.3 f.ensures))
 
 pub returns : goal.returns
 returns c =
     let l = c.loop-l in
     let i = l.invariant in
-    rw (← ready-end (read c.args.s.now) _ l.l i.5.no_more
-    (omega (arith, i.1))) i.6
+    rw (← ready-end (read c.args.s.now) _ l.l i.2.no_more
+    (omega (arith, i.0))) i.3

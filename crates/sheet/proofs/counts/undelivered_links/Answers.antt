@@ -1,17 +1,23 @@
--- `sheet::counts::undelivered_links` meets its contract: a count of links past 2048 is read as 2048 (`undelivered_past`).
-use mathlib.Core.Path.{◌∙◌}
+-- `sheet::counts::undelivered_links` meets its contract: a count of links past 2048 is read as 2048 (`undelivered_within`).
+use mathlib.Core.Path.{◌≡◌, ap, ◌∙◌}
 use native.Mathlib.Omega.{arith}
-use Rattle.sheet.specs.Closing.{undelivered_past, undelivered-here}
+use Rattle.std.specs.Prelude.{ℕ, min}
+use Rattle.std.proofs.Math.Nat.{min-le_right}
+use Rattle.session.specs.Names.{most_links}
+use Rattle.session.specs.Table.{read}
+use Rattle.session.specs.declared.Field.TheVariants.{Links}
+use Rattle.rules.specs.Reading.{is_undelivered}
+use Rattle.sheet.specs.Closing.{undelivered_within}
+use Rattle.std.proofs.Common.{rules}
 use Rattle.sheet.proofs.counts.undelivered_links.Goals as goal
-
-pub returns-then-links-gt-MOST_LINKS : goal.returns-then-links-gt-MOST_LINKS
-returns-then-links-gt-MOST_LINKS c =
-    record {
-      answer = c.count_undelivered.ensures.answer
-          ∙ undelivered_past c.args.s.now (omega (arith, c.get-links.ensures, c.if-links-gt-MOST_LINKS.true));
-      few = c.count_undelivered.ensures.few;
-    }
 
 pub returns : goal.returns
 returns c =
-    record { answer = c.count_undelivered-2.ensures.answer ∙ undelivered-here c.args.s.now _ c.get-links.ensures; few = c.count_undelivered-2.ensures.few }
+    let s = read c.args.s.now in
+    let n = c.count_below.ensures in
+    let last : c.min-last.result ≡ min (s Links 0) most_links =
+    c.min-last.ensures ∙ ap (λ (n : ℕ). min n most_links) c.get.ensures in
+    record {
+      answer = n.answer (is_undelivered s) (search rules) ∙ rw last (undelivered_within c.args.s.now);
+      few = omega (arith, n.few, last, min-le_right (s Links 0) most_links);
+    }

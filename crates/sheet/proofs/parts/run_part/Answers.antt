@@ -1,38 +1,38 @@
--- `sheet::parts::run_part` meets its contract: too little lent (`parted_not`), or what `run_part_from` leaves (`parted`).
+-- `sheet::parts::run_part` meets its contract: too little lent (`parted_not`), or what `part_from` leaves (`parted`) of the first words
+-- (`part_first`).
 use mathlib.Core.Path.{sym, ◌∙◌}
-use Rattle.rules.specs.Formula.{Holds}
+use native.Mathlib.Omega.{arith}
+use Rattle.std.proofs.lemmas.List.{take-append-drop}
+use Rattle.session.specs.Table.{read, words}
 use Rattle.rules.specs.FormulaLaws.{passed, failed}
-use Rattle.session.specs.Table.{read}
 use Rattle.rules.specs.Sound.{kept}
-use Rattle.sheet.specs.Going.{lines_of, lent}
+use Rattle.sheet.specs.First.{part_first}
 use Rattle.sheet.specs.PartLaws.{parted_not, parted}
 use Rattle.sheet.proofs.parts.run_part.Goals as goal
 
-pub returns-then-not-is_lent : goal.returns-then-not-is_lent
-returns-then-not-is_lent c =
+pub returns-in_default : goal.returns-in_default
+returns-in_default c =
     let a = c.args in
-    parted_not a.sheet.now a.from a.memory.now a.lines.now
-    (failed _ (sym c.is_lent.ensures ∙ c.if-not-is_lent.true))
+    let short = rw c.in_default.is at c.first_chunk_mut.ensures.cases in
+    parted_not a.sheet.now a.from a.memory.now a.lines.now (λ h. omega (arith, h.0, short))
 
-pub is_kept-sure-requires : goal.is_kept-sure-requires
-is_kept-sure-requires c =
-    let lends : (let a = c.args in Holds (lent a.memory.now (lines_of a.lines.now 0))) =
-    passed _ (sym c.is_lent.ensures ∙ c.if-not-is_lent.false) in
-    (lends).0
+pub returns-then-not-has_room : goal.returns-then-not-has_room
+returns-then-not-has_room c =
+    let a = c.args in
+    rw (c.in-Some.ensures.cases.same, take-append-drop words a.memory.now)
+    (parted_not a.sheet.now a.from a.memory.now a.lines.now
+    (λ h. failed _ (sym c.has_room.ensures ∙ c.if-not-has_room.true) h.1))
 
-pub run_part_from-requires : goal.run_part_from-requires
-run_part_from-requires c =
-    let lends : (let a = c.args in Holds (lent a.memory.now (lines_of a.lines.now 0))) =
-    passed _ (sym c.is_lent.ensures ∙ c.if-not-is_lent.false) in
-    let a = c.args in (
-      lends,
-      λ e. passed (kept (read a.memory.now)) (sym c.is_kept-sure.ensures ∙ e),
-    )
+pub part_from-requires : goal.part_from-requires
+part_from-requires c = (
+  passed _ (sym c.has_room.ensures ∙ c.if-not-has_room.false),
+  λ e. passed (kept (read c.in-Some.session.now)) (sym c.is_kept-sure.ensures ∙ e),
+)
 
 pub returns : goal.returns
 returns c =
-    let lends : (let a = c.args in Holds (lent a.memory.now (lines_of a.lines.now 0))) =
-    passed _ (sym c.is_lent.ensures ∙ c.if-not-is_lent.false) in
     let a = c.args in
-    parted a.sheet.now a.from a.memory.now a.lines.now _ _ _ (lends)
-    c.run_part_from.ensures
+    let first = c.in-Some.ensures.cases in
+    let room = passed _ (sym c.has_room.ensures ∙ c.if-not-has_room.false) in
+    parted a.sheet.now a.from a.memory.now a.lines.now _ _ _ (first.enough, room)
+    (part_first a.sheet.now a.from a.memory.now _ a.lines.now _ _ first.enough (rw first.same at c.part_from.ensures))

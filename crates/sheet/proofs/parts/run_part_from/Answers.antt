@@ -1,33 +1,13 @@
--- `sheet::parts::run_part_from` meets its contract, by the cases of where it goes on.
-use native.Mathlib.Omega.{arith}
-use Rattle.sheet.specs.PartLaws.{before_most, place-begun, at_part, last_part_lem, no_part}
+-- `sheet::parts::run_part_from` meets its contract: a part of the first words is one of the memory (`part_first`).
+use Rattle.session.specs.First.{read_first}
+use Rattle.sheet.specs.First.{part_first}
 use Rattle.sheet.proofs.parts.run_part_from.Goals as goal
 
-pub run_at-run-requires : goal.run_at-run-requires
-run_at-run-requires c =
-    (c.requires.0, c.requires.1, rw c.records_before-done.ensures (before_most _ _))
+pub part_from-requires : goal.part_from-requires
+part_from-requires c = (c.requires.0.1, rw (c.in-Some.ensures.cases.same, read_first c.args.memory.now) c.requires.1)
 
-pub part_of-requires : goal.part_of-requires
-part_of-requires c =
-    let x = c.run_at-run.ensures in (
-      omega (arith, x.session.same_length, c.requires.0.0),
-      place-begun c.args.sheet.now c.args.memory.now c.args.lines.now c.well_formed.0.0 c.requires.0.1 _ _ _ _ _ _
-          c.records_before-done.ensures x,
-    )
-
-pub returns-in-At : goal.returns-in-At
-returns-in-At c =
-    rw c.in-At.is
-    (at_part c.args.sheet.now c.args.memory.now c.args.lines.now c.well_formed.0.0 c.requires.0.1 _ _ _ _ _ _
-    c.records_before-done.ensures c.run_at-run.ensures _ _ c.part_of.ensures)
-
-pub returns-in-LastLine : goal.returns-in-LastLine
-returns-in-LastLine c =
-    rw c.in-LastLine.is
-    (last_part_lem c.args.sheet.now c.args.memory.now c.args.lines.now c.well_formed.0.0 c.requires.0.1 _ _
-    c.last_part.ensures)
-
-pub returns-in-Nothing : goal.returns-in-Nothing
-returns-in-Nothing c =
-    rw c.in-Nothing.is
-    (no_part c.args.sheet.now c.args.memory.now c.args.lines.now c.well_formed.0.0 c.requires.0.1)
+pub returns : goal.returns
+returns c =
+    let a = c.args in
+    part_first a.sheet.now a.from a.memory.now _ a.lines.now _ _ c.requires.0.0
+    (rw c.in-Some.ensures.cases.same at c.part_from.ensures)

@@ -1,8 +1,7 @@
 -- `sheet::settled::is_link_settled` meets its contract, by the cases of a link.
 use mathlib.Core.Path.{sym, ◌∙◌}
-use native.Mathlib.Omega.{arith}
 use Rattle.session.specs.Table.{read}
-use Rattle.sheet.specs.Settled.{link_delivered, slot-place, link_past, link_marked}
+use Rattle.sheet.specs.Settled.{link_delivered, link_past, link_marked}
 use Rattle.sheet.proofs.settled.is_link_settled.Goals as goal
 
 pub returns-then-get-eq-DELIVERED : goal.returns-then-get-eq-DELIVERED
@@ -12,20 +11,6 @@ pub returns-then-get-slot : goal.returns-then-get-slot
 returns-then-get-slot c =
     link_past (read c.args.s.now) _ _ _ _ c.get-target.ensures c.get-slot.ensures
     c.get-2.ensures c.if-get-slot.true
-
-pub overflow_add-target : goal.overflow_add-target
-overflow_add-target c =
-    let p = slot-place (read c.args.s.now) _ _ _ _ c.get-target.ensures
-    c.get-slot.ensures c.get-2.ensures c.requires.1 c.if-get-slot.false in
-    omega arith
-
-pub get-requires-3 : goal.get-requires-3
-get-requires-3 c = (
-  c.requires.0,
-  slot-place (read c.args.s.now) _ _ _ _ c.get-target.ensures
-      c.get-slot.ensures
-      c.get-2.ensures c.requires.1 c.if-get-slot.false,
-)
 
 pub returns : goal.returns
 returns c =

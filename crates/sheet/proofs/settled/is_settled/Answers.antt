@@ -10,13 +10,9 @@ use Rattle.rules.specs.FormulaLaws.{passed, failed, passes, fails}
 use Rattle.sheet.specs.Settled.{link_settled, leads, settled-links}
 use Rattle.sheet.proofs.settled.is_settled.Goals as goal
 
-pub loop-l-init : goal.loop-l-init
-loop-l-init c = (omega arith, λ i h. absurd (omega arith))
-
 pub is_link_settled-requires : goal.is_link_settled-requires
 is_link_settled-requires c =
-    let p = c.requires in
-    (p.0, leads (read c.args.s.now) p.1 _ (omega (arith, c.get-links.ensures)))
+    leads (read c.args.s.now) c.requires _ (omega (arith, c.get-links.ensures))
 
 pub returns-then-not-is_link_settled : goal.returns-then-not-is_link_settled
 returns-then-not-is_link_settled c =
@@ -24,28 +20,20 @@ returns-then-not-is_link_settled c =
     let l = c.loop-l.l in
     let here = failed (link_settled s l) (sym c.is_link_settled.ensures ∙ c.if-not-is_link_settled.true) in
     sym (fails (each (s Links 0 + 1) (link_settled s)) (λ f. here (f l (omega (arith, c.get-links.ensures)))))
-    ∙ settled-links s c.requires.1
-
-pub overflow_add-l : goal.overflow_add-l
-overflow_add-l c =
-    omega (
-      arith,
-      c.get-links.ensures,
-      (leads (read c.args.s.now) c.requires.1 c.loop-l.l
-          (omega (arith, c.get-links.ensures))).link,
-    )
+    ∙ settled-links s c.requires
 
 pub loop-l-preserved : goal.loop-l-preserved
 loop-l-preserved c =
     let s = read c.args.s.now in
-    let l = c.loop-l in (
-      omega arith,
-      below_more _ _ l.invariant.1
-          (passed (link_settled s l.l) (sym c.is_link_settled.ensures ∙ c.if-not-is_link_settled.false)),
-    )
+    let l = c.loop-l in
+    below_more _ _ l.invariant
+    (passed (link_settled s l.l) (sym c.is_link_settled.ensures ∙ c.if-not-is_link_settled.false))
 
-pub returns : goal.returns
-returns c =
+pub returns-else-not-is_link_settled : goal.returns-else-not-is_link_settled
+returns-else-not-is_link_settled c =
     let s = read c.args.s.now in
-    sym (passes (each (s Links 0 + 1) (link_settled s))
-    (λ i h. c.loop-l.invariant.1 i (omega (arith, c.get-links.ensures)))) ∙ settled-links s c.requires.1
+    let l = c.loop-l in
+    let all = below_more _ _ l.invariant
+    (passed (link_settled s l.l) (sym c.is_link_settled.ensures ∙ c.if-not-is_link_settled.false)) in
+    sym (passes (each (s Links 0 + 1) (link_settled s)) (λ i h. all i (omega (arith, c.get-links.ensures))))
+    ∙ settled-links s c.requires

@@ -5,4 +5,4 @@ use Rattle.sound.specs.Row.{row_zero}
 use Rattle.sound.proofs.blocks.held_marks.Goals as goal
 
 pub mark_all_held-requires : goal.mark_all_held-requires
-mark_all_held-requires c = let p = c.requires in (p.0, p.1, row_zero object_places (λ b. 0) (λ b q. refl))
+mark_all_held-requires c = row_zero object_places (λ b. 0) (λ b q. refl)

@@ -1,21 +1,16 @@
--- `sound::counted::is_any_counted` meets its contract: the type that is read, from handle e to e + 1 (`some_more`).
-use Prim.Native.Nat.{◌+◌}
-use mathlib.Core.Path.{◌≡◌, sym}
-use native.Mathlib.Omega.{arith}
-use Rattle.reading.specs.Loops.{some_none, some_more}
-use Rattle.reading.specs.TestLaws.{equals}
+-- `sound::counted::is_any_counted` meets its contract: not every event fails to be counted (`none_each`).
+use Rattle.std.specs.Prelude.{◌+◌}
+use Rattle.std.proofs.Common.{rules}
+use Rattle.std.proofs.Math.Bool.{not-not}
+use Rattle.session.specs.Table.{read}
+use Rattle.rules.specs.Formula.{not}
+use Rattle.rules.specs.Reading.{is_counted}
+use Rattle.rules.specs.Bools.{test-not, test_eq}
+use Rattle.sound.specs.Held.{none_each}
 use Rattle.sound.proofs.counted.is_any_counted.Goals as goal
-
-pub loop-e-init : goal.loop-e-init
-loop-e-init c = (omega arith, sym (some_none _))
-
-pub loop-e-preserved : goal.loop-e-preserved
-loop-e-preserved c =
-    let l = c.loop-e in
-    (omega arith, rw (c.of_object.ensures, l.invariant.1, equals _ _) (sym (some_more l.e _)))
 
 pub returns : goal.returns
 returns c =
-    let l = c.loop-e in
-    let d : l.e ≡ c.args.n + 1 = omega arith in
-    rw (← d) l.invariant.1
+    let s = read c.args.v.now.s.now in
+    let e = c.all_below.ensures (λ e. not (is_counted s e)) (λ i r l p. rw (test-not, test_eq) (search rules)) in
+    rw (e, none_each (c.args.v.now.objects + 1) (is_counted s), c.args.v.now.counted.objects) (not-not _)

@@ -5,4 +5,4 @@ use Rattle.sound.specs.HolderTable.{cells}
 use Rattle.sound.proofs.holders.are_compatible.Goals as goal
 
 pub are_compatible_by-requires : goal.are_compatible_by-requires
-are_compatible_by-requires c = let p = c.requires in (p.0, p.1, p.2, row_zero cells (λ b. 0) (λ b q. refl))
+are_compatible_by-requires c = record { held = c.requires; none = row_zero cells (λ b. 0) (λ b q. refl) }

@@ -3,20 +3,12 @@ use mathlib.Core.Path.{sym, ◌∙◌}
 use Rattle.session.specs.Names.{held}
 use Rattle.session.specs.declared.Field.TheVariants.{SlotMark}
 use Rattle.session.specs.Table.{read}
-use Rattle.rules.specs.FormulaLaws.{passes, test_then}
+use Rattle.rules.specs.FormulaLaws.{test_then}
 use Rattle.rules.specs.Formula.{not, Formula.◌≐◌, Formula.◌and◌, Formula.each}
 use Rattle.sound.specs.HolderTable.{none_clashes}
 use Rattle.rules.specs.Bools.{test-both, test-not}
 use Rattle.rules.specs.Sound.{clash, clash_made}
 use Rattle.sound.proofs.holders.is_compatible.Goals as goal
-
-pub returns-then-of_slot-ne-HELD : goal.returns-then-of_slot-ne-HELD
-returns-then-of_slot-ne-HELD c = sym (passes _ (λ m. absurd (c.if-of_slot-ne-HELD.true (c.of_slot.ensures ∙ m))))
-
-pub does_clash-requires : goal.does_clash-requires
-does_clash-requires c =
-    let p = c.requires in
-    (p.0, p.1, p.2 (sym c.of_slot.ensures ∙ c.if-of_slot-ne-HELD.false), p.3)
 
 pub returns : goal.returns
 returns c =

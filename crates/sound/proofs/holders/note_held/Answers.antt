@@ -11,7 +11,7 @@ pub returns : goal.returns
 returns c =
     let a = c.args in
     let s = read a.s.now in
-    let h = c.requires.3 in
-    let t : a.i / 16 < object_places = place_owner object_places a.i c.requires.1 in
+    let h = c.requires.2 in
+    let t : a.i / 16 < object_places = place_owner object_places a.i c.requires.0 in
     rw (c.join.ensures, c.of_slot-b.ensures, c.of_slot-mode.ensures)
-    (holders_more s a.row.now a.i c.requires.4 c.requires.2 h.block h.mode.0 h.mode.1 h.task_low (omega arith))
+    (holders_more s a.row.now a.i c.requires.3 c.requires.1 h.block h.mode.0 h.mode.1 h.task_low (omega arith))

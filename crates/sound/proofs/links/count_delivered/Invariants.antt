@@ -1,13 +1,9 @@
 -- `sound::links::count_delivered` meets its contract: from l to l + 1, by what l is (`count_next_yes`, `count_next_no`).
-use Prim.Native.Nat.{◌+◌, ◌-◌, ◌≤◌}
-use mathlib.Core.Path.{◌≡◌}
+use Rattle.std.specs.Prelude.{◌≡◌, ◌≤◌}
 use Rattle.session.specs.Table.{read}
 use Rattle.rules.specs.Formula.{count as count_of}
 use Rattle.rules.specs.Sound.{is_delivered}
 use Rattle.sound.proofs.links.count_delivered.Given as goal
 
 abbrev pub invariant-loop-l : goal.invariant-loop-l
-invariant-loop-l l = (l.l ≤ l.n + 1) × (l.count ≡ count_of l.l (is_delivered (read l.s))) × (l.count ≤ l.l)
-
-abbrev pub decreases-loop-l : goal.decreases-loop-l
-decreases-loop-l l = l.n + 1 - l.l
+invariant-loop-l l = (l.count ≡ count_of l.l (is_delivered (read l.s))) × (l.count ≤ l.l)

@@ -1,5 +1,5 @@
 -- `sound::links::is_link` meets its contract: the link and both ends' kinds are read, callees give the rest (`simp` with Bools).
-use Rattle.rules.specs.Bools.{test-both, test_either, test_eq}
+use Rattle.sound.proofs.Bools.{bools}
 use Rattle.sound.proofs.links.is_link.Goals as goal
 
 pub returns : goal.returns
@@ -15,7 +15,5 @@ returns c =
       c.of_link-slot.ensures,
       c.of_link-target.ensures,
       c.of_link-source.ensures,
-      test-both,
-      test_either,
-      test_eq,
+      bools,
     )

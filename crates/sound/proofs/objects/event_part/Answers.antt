@@ -1,5 +1,5 @@
 -- `sound::objects::event_part` meets its contract: six numbers are read, callees judge count, type and payload (`simp` with Bools).
-use Rattle.rules.specs.Bools.{test-not, test-both, test_either, test_eq, test_le}
+use Rattle.sound.proofs.Bools.{bools}
 use Rattle.sound.proofs.objects.event_part.Goals as goal
 
 pub returns : goal.returns
@@ -14,9 +14,5 @@ returns c =
       c.of_object-payload.ensures,
       c.of_object-kind.ensures,
       c.of_object-state.ensures,
-      test-not,
-      test-both,
-      test_either,
-      test_eq,
-      test_le,
+      bools,
     )

@@ -1,5 +1,5 @@
 -- `sound::objects::is_object` meets its contract: the kind's range, and the answers of the four parts (`simp` with Bools).
-use Rattle.rules.specs.Bools.{test_implies, test-both, test_le}
+use Rattle.sound.proofs.Bools.{bools}
 use Rattle.sound.proofs.objects.is_object.Goals as goal
 
 pub returns : goal.returns
@@ -10,7 +10,5 @@ returns c =
       c.task_part.ensures,
       c.template_part.ensures,
       c.of_object-kind.ensures,
-      test_implies,
-      test-both,
-      test_le,
+      bools,
     )

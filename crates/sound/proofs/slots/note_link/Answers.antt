@@ -14,10 +14,10 @@ returns-then-of_object-eq-TASK c =
     let e = c.of_link-target.ensures in
     let d = c.of_link-slot.ensures in
     let t : s Kind (s LinkTarget a.l) ≡ 2 = rw e at (sym c.of_object.ensures ∙ c.if-of_object-eq-TASK.true) in
-    rw (e, d) (row_link s a.row.now a.l p.4 p.1 t (omega (arith, p.2, p.3)))
+    rw (e, d) (row_link s a.row.now a.l p.3 p.0 t (omega (arith, p.1, p.2)))
 
 pub returns-else-of_object-eq-TASK : goal.returns-else-of_object-eq-TASK
 returns-else-of_object-eq-TASK c =
     let a = c.args in
     let e = c.of_link-target.ensures in
-    row_skip (read a.s.now) a.row.now a.l c.requires.4 (λ t. c.if-of_object-eq-TASK.false (c.of_object.ensures ∙ rw e t))
+    row_skip (read a.s.now) a.row.now a.l c.requires.3 (λ t. c.if-of_object-eq-TASK.false (c.of_object.ensures ∙ rw e t))

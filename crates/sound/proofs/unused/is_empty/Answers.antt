@@ -1,5 +1,5 @@
 -- `sound::unused::is_empty` meets its contract: the kind compared with 0, and the answers of five callees (`simp` with Bools).
-use Rattle.rules.specs.Bools.{test-both, test_eq}
+use Rattle.sound.proofs.Bools.{bools}
 use Rattle.sound.proofs.unused.is_empty.Goals as goal
 
 pub returns : goal.returns
@@ -11,6 +11,5 @@ returns c =
       c.are_no_slots.ensures,
       c.block_part.ensures,
       c.event_part.ensures,
-      test-both,
-      test_eq,
+      bools,
     )
