@@ -82,7 +82,7 @@ EDITS = [
      'let n = streams::read_full(reader, &mut room[from..to])?;',
      'let n = streams::read_full(&mut b"".as_slice(), &mut room[from..to])?;'),
     ('class_report', UNSEEN, 'class_report/src/main.rt',
-     'for _ in 0..u64::MAX {', 'for _ in 0..4096u64 {'),
+     'for _ in (0..u64::MAX).rev() {', 'for _ in (0..4096u64).rev() {'),
 ]
 
 # edits that are tried one after the other, in one copy of the tree

@@ -1,14 +1,14 @@
 // Looking for live tasks from a handle down, eight handles at a time: most handles are not theirs.
-ghost use Rattle.std.specs.Prelude.{◌≡◌, ◌+◌, ◌≤◌, ◌<◌};
+ghost use Rattle.std.specs.Prelude.{◌≡◌, ◌+◌, ◌≤◌, ◌<◌, length};
 ghost use Rattle.session.specs.Names.{most_objects, object_places};
-ghost use Rattle.session.specs.Table.{read};
+ghost use Rattle.session.specs.Table.{read, words};
 ghost use Rattle.session.specs.Lent.{was};
 ghost use Rattle.session.specs.declared.Field.TheVariants.{Objects};
 ghost use Rattle.rules.specs.Formula.{test};
 ghost use Rattle.ancestors.specs.Live.{Stated, live_state, LastOf};
 
 use reading::any_of_eight;
-use session::{Field, Memory, names};
+use session::{Field, Memory, WORDS, names};
 
 // Whether the state at h is a live task's. Internal: callers have shown the handle.
 fn is_live_state(s: &Memory, h: usize) -> bool
@@ -22,8 +22,8 @@ fn is_live_state(s: &Memory, h: usize) -> bool
     state <= names::RUNNING
 }
 
-// The last live task up to the handle `high`. Internal: callers have shown the handle, and that tasks have a state.
-pub fn last_live(s: &Memory, high: u64) -> Option<u64>
+// The last live task up to the handle `high`.
+fn last_live_of(s: &Memory, high: u64) -> Option<u64>
     requires { (read s.now Objects 0 ≤ most_objects) × Stated (read s.now) × (high ≤ read s.now Objects 0) }
     ensures { LastOf (was s.now) high result }
 {
@@ -38,4 +38,15 @@ pub fn last_live(s: &Memory, high: u64) -> Option<u64>
         }
     }
     None
+}
+
+// The same of a session in longer memory. Internal: callers have shown the length, the handle, and that tasks have a state.
+pub fn last_live(s: &[u64], high: u64) -> Option<u64>
+    requires { (words ≤ length s.now) × (read s.now Objects 0 ≤ most_objects) × Stated (read s.now) × (high ≤ read s.now Objects 0) }
+    ensures { LastOf (was s.now) high result }
+{
+    let Some(s) = s.first_chunk::<WORDS>() else {
+        unreachable!()
+    };
+    last_live_of(s, high)
 }

@@ -9,9 +9,9 @@ ghost use Rattle.rules.specs.Sound.{sound};
 ghost use Rattle.checks.specs.GrantChecks.{slot_at, task_at, is_claim, has_claim, clash, maker_clash, hold_clash, blocks_remain};
 ghost use Rattle.checks.specs.GrantChecks.{slots_free};
 
+use crate::handles::{are_blocks_left, first_words};
 use crate::holders::Holders;
-use crate::objects::remains_or_null;
-use reading::{of_object, of_slot_at};
+use reading::of_object;
 use rules::modes::is_stopped;
 use rules::{Slot, Task};
 use session::{Field, Memory, WORDS, names};
@@ -111,17 +111,12 @@ fn hold_clashes(s: &Memory, t: u64, slot: Slot, k: usize) -> bool
     (session::get(s, Field::SlotMark, k) == names::HELD) && clashes(slot, slot_at(s, k))
 }
 
-// Whether the block of each pre-slot remains: none is doomed or destroyed.
-pub fn blocks_remain(s: &Memory, t: u64) -> bool
+// Whether the block of each pre-slot remains: none is doomed or destroyed. Of a session in longer memory, as the tests of `objects` are.
+pub fn blocks_remain(s: &[u64], t: u64) -> bool
+    requires { words ≤ length s.now }
     ensures { result ≡ test (blocks_remain (was s.now) t) }
 {
-    let count = of_object(s, Field::TaskSlots, t);
-    for j in 0..count {
-        if !remains_or_null(s, of_slot_at(s, Field::SlotPayload, t, j)) {
-            return false;
-        }
-    }
-    true
+    are_blocks_left(first_words(s), t)
 }
 
 // Whether no hold of another task stops what the pre-slots ask for: a scan over the pre-slots and, for each that asks

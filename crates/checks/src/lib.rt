@@ -15,13 +15,15 @@ ghost use Rattle.rules.specs.Checks.{end_checks, counted_checks};
 ghost use Rattle.checks.specs.CheckParts.{satisfy_or_link_checks};
 
 pub mod granting;
+mod handles;
 pub mod holders;
 pub mod objects;
 
-use crate::granting::{blocks_remain, is_free};
-use crate::objects::{
-    has_event_slot, has_room, has_slot, is_block_or_null, is_count, is_destination, is_destroyable,
-    is_idle, is_made_or_null, is_source, is_unclaimed, is_user_event, remains_or_null,
+use crate::granting::is_free;
+use crate::handles::{
+    are_blocks_left, has_event_slot, has_room, has_slot, is_block_or_null, is_count,
+    is_destination, is_destroyable, is_idle, is_made_or_null, is_source, is_unclaimed,
+    is_user_event, remains_or_null,
 };
 use reading::{
     has_its_count, holds_block, is_fired_sticky, is_gone, is_kind, is_made, is_running, of_link,
@@ -328,7 +330,7 @@ pub fn grant_refusal(s: &Memory, t: u64) -> Result<(), Refusal>
     if of_object(s, Field::TaskState, t) != names::RESOLVED {
         return Err(Refusal::WrongState);
     }
-    if !blocks_remain(s, t) {
+    if !are_blocks_left(s, t) {
         return Err(Refusal::BlockGone);
     }
     if !is_free(s, t) {

@@ -1,4 +1,4 @@
-// The lines of a report.
+// The lines of a report. Internal: callers have shown that there is room.
 ghost use Rattle.std.specs.Prelude.{◌+◌, ◌≤◌, length};
 ghost use Rattle.lines.specs.Line.{marked};
 ghost use Rattle.text.specs.Put.{Put};

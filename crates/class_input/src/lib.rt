@@ -89,8 +89,8 @@ fn read_rest<R: Read>(reader: &mut R, room: &mut [u8], from: usize, to: usize) -
 
 // Puts what a report asks for into the half of the memory in which no pending sheet lies, which stays as it is: what was read and not
 // handed yet comes first. An error is that of a read, which is tried only where less was there than is asked for; the pending sheet
-// stays then too. Internal: callers have shown that no more was read than may be, and where the pending sheet lies.
-pub fn read_asked<R: Read>(
+// stays then too.
+fn read_into<R: Read>(
     reader: &mut R,
     report: Report,
     window: Window,
@@ -126,4 +126,32 @@ pub fn read_asked<R: Read>(
     }
     let end = read_rest(reader, room, first, place + n)?;
     Ok(Handed { end, window: rest })
+}
+
+// The same in slices of just those lengths. Internal: callers have shown the lengths, that no more was read than may be, and where the
+// pending sheet lies. docs/PROMISES.md names it, so that it takes slices as before.
+pub fn read_asked<R: Read>(
+    reader: &mut R,
+    report: Report,
+    window: Window,
+    input: &mut [u8],
+    place: usize,
+    room: &mut [u8],
+) -> io::Result<Handed>
+    requires input_len { (length input.old ≡ 16384) × Inside window input.old × Ahead report (window.to - window.from) }
+    requires room_len { (length room.old ≡ 65536) × InHalf report.pending × (place ≡ free_half report.pending) }
+    ensures given { IfOk result (λ h. (g : Given report window place input.old input.new room.old room.new h)
+        × Consumes (R.remaining reader.old) (R.remaining reader.new) g.came) }
+    ensures ended { IfOk result (λ h. (h.end - place) < asks report → IsAtEnd (R.remaining reader.new)) }
+    ensures needed { OnErr result (size_of window < asks report) }
+    ensures stays { OnErr result ((length input.new ≡ length input.old) × (length room.new ≡ length room.old)
+        × (pending_in room.new report.pending ≡ pending_in room.old report.pending)) }
+{
+    let Some(input) = input.as_mut_array::<INPUT>() else {
+        unreachable!()
+    };
+    let Some(room) = room.as_mut_array::<TWO_SHEETS>() else {
+        unreachable!()
+    };
+    read_into(reader, report, window, input, place, room)
 }

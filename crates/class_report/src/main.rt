@@ -64,7 +64,7 @@ fn run<R: Read, W: Write>(reader: &mut R, writer: &mut W) -> io::Result<()> {
     let mut filled = 0;
     let mut report = class::begin();
     // a proved loop has to end, and nothing says that the input does: so many turns no run uses up
-    for _ in 0..u64::MAX {
+    for _ in (0..u64::MAX).rev() {
         let place = class::free_half(report);
         let handed = class_input::read_asked(reader, report, window, &mut input, place, &mut room)?;
         let step = gather(

@@ -1,11 +1,13 @@
 -- A single call in numbers: the refusal and what was made.
-use Rattle.std.specs.Prelude.{ℕ, ◌≡◌, Bool, true, false, List, [], ◌∷◌, leb, length}
+use Rattle.std.specs.Prelude.{ℕ, ◌≡◌, Bool, true, false, List, [], ◌∷◌, leb, length, Result, Result.Ok, Result.Err, MatchResult}
 use Rattle.std.proofs.Common.{ap, ◌∙◌}
 use Rattle.session.specs.Table.{Wrote, read, words, pick}
 use Rattle.rules.specs.declared.Operation.{Operation}
 use Rattle.rules.specs.Answer.{Answer}
 use Rattle.rules.specs.Answer.{Answer.Refused}
-use Rattle.rules.specs.Answer.{refused_of, made_of}
+use Rattle.rules.specs.Answer.{answer_told, refused_of, made_of}
+use Rattle.rules.specs.declared.refusals.Refusal.{Refusal}
+use Rattle.rules.specs.Refusals.{number}
 use Rattle.rules.specs.Step.{step}
 use Rattle.engine.specs.Played.{Replied, Answered, numbers}
 
@@ -23,6 +25,17 @@ pub record CalledSound (before after : List ℕ) (op : Operation) (refused made 
 abbrev pub Called : List ℕ → List ℕ → Operation → ℕ → ℕ → Type 0
 Called before after op refused made =
     pick (leb words (length before)) (CalledSound before after op refused made) ((refused ≡ 1) × (made ≡ 0) × (after ≡ before))
+
+-- of an answer of the engine's, in which a refusal becomes its number, `tell` gives the answer's two numbers
+pub tells_refused : (r : Result ℕ Refusal) (n : ℕ) → MatchResult r (λ _. n ≡ 0) (λ e. n ≡ number e) → n ≡ refused_of (answer_told r)
+unfolding refused_of
+tells_refused (Ok m) n h = h
+tells_refused (Err e) n h = h
+
+pub tells_made : (r : Result ℕ Refusal) (n : ℕ) → MatchResult r (λ m. n ≡ m) (λ _. n ≡ 0) → n ≡ made_of (answer_told r)
+unfolding made_of
+tells_made (Ok m) n h = h
+tells_made (Err e) n h = h
 
 -- an answer's two numbers are those of the reply
 pub told : (before after : List ℕ) (op : Operation) (r : Answer) → Replied before after r (step (read before) op)

@@ -1,11 +1,10 @@
 #![tactic(auto)]
 
 // The engine for other languages: C functions over numbers and slices (include/faltxigor.h).
-ghost use Rattle.std.specs.Prelude.{◌≡◌};
+ghost use Rattle.std.specs.Prelude.{◌≡◌, MatchResult};
 ghost use Rattle.session.specs.Table.{read, pick};
 ghost use Rattle.session.specs.Fresh.{Leaves, refused_length, fresh_session};
 ghost use Rattle.rules.specs.Refusals.{refusal_told};
-ghost use Rattle.rules.specs.Answer.{answer_told, refused_of, made_of};
 ghost use Rattle.sound.specs.RulesInOrder.{sound_memory};
 ghost use Rattle.sheet.specs.WholeSheet.{Ran};
 ghost use Rattle.sheet.specs.Closing.{Closes};
@@ -44,10 +43,11 @@ pub fn faltxigor_sound(memory: &[u64]) -> u64
     u64::from(sound::is_sound(memory))
 }
 
-// An answer as document 01 has it: the refusal, 0 if accepted, and what was made or the steps climbed, or 0, into `made`.
-pub fn tell(answer: Result<u64, Refusal>, made: &mut u64) -> u64
-    ensures refused { result ≡ refused_of (answer_told answer) }
-    ensures made { made.new ≡ made_of (answer_told answer) }
+// An answer as document 01 has it: the refusal, 0 if accepted, and what was made or the steps climbed, or 0, into `made`. A refusal is
+// whatever becomes a number: one that has it already too.
+pub fn tell<E: Into<u64>>(answer: Result<u64, E>, made: &mut u64) -> u64
+    ensures refused { MatchResult answer (λ _. result ≡ 0) (λ e. E.converts e result) }
+    ensures made { MatchResult answer (λ m. made.new ≡ m) (λ _. made.new ≡ 0) }
 {
     match answer {
         Ok(m) => {
@@ -55,8 +55,9 @@ pub fn tell(answer: Result<u64, Refusal>, made: &mut u64) -> u64
             0
         }
         Err(refusal) => {
+            let number = refusal.into();
             *made = 0;
-            u64::from(refusal)
+            number
         }
     }
 }

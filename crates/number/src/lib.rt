@@ -2,7 +2,7 @@
 
 // Numbers in groups of seven bits, lowest first, the high bit set on all but the last byte, in the fewest bytes. The loops that stay `while`
 // divide a value and count no index. Memory and the place in it stay two parameters, as C lends a memory with the length used.
-ghost use Rattle.std.specs.Prelude.{◌≡◌, ◌+◌, ◌≤◌, ◌%◌, length};
+ghost use Rattle.std.specs.Prelude.{◌≡◌, ◌+◌, ◌≤◌, ◌<◌, ◌%◌, length, true, false};
 ghost use Rattle.number.specs.Number.{encode, judged, read_at, splice, written, memory};
 
 mod reader;
@@ -65,14 +65,23 @@ pub fn write(v: u64, out: &mut [u8], used: usize) -> Option<usize>
     ensures answer { result ≡ written v out.old used }
     ensures bytes { out.new ≡ memory v out.old used }
 {
-    if out.len().saturating_sub(used) < size(v) {
+    if !has_room(v, out.len().saturating_sub(used)) {
         return None;
     }
-    Some(write_number(v, out, used))
+    Some(put_groups(v, out, used))
 }
 
-// Writes a value and answers the place behind it. Internal: the caller has shown that there is room.
-pub fn write_number(v: u64, out: &mut [u8], at: usize) -> usize
+// Whether so many bytes are room for a value; ten are for every one.
+#[tactic(auto, using(crate::specs::NumberRoundTrip::length_64))]
+fn has_room(v: u64, free: usize) -> bool
+    ensures yes { result ≡ true → length (encode v) ≤ free }
+    ensures no { result ≡ false → free < length (encode v) }
+{
+    (10 <= free) || (size(v) <= free)
+}
+
+// Writes a value and answers the place behind it. Internal, as all below are: the caller has shown that there is room.
+fn put_groups(v: u64, out: &mut [u8], at: usize) -> usize
     requires { at + length (encode v) ≤ length out.old }
     ensures answer { result ≡ at + length (encode v) }
     ensures bytes { out.new ≡ splice out.old at (encode v) }
@@ -86,6 +95,15 @@ pub fn write_number(v: u64, out: &mut [u8], at: usize) -> usize
     }
     out[last] = rest as u8;
     last + 1
+}
+
+// The same by `write`, which finds that there is room.
+pub fn write_number(v: u64, out: &mut [u8], at: usize) -> usize
+    requires { at + length (encode v) ≤ length out.old }
+    ensures answer { result ≡ at + length (encode v) }
+    ensures bytes { out.new ≡ splice out.old at (encode v) }
+{
+    write(v, out, at).unwrap_or(at)
 }
 
 // How many bytes a value takes.

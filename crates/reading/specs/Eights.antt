@@ -28,6 +28,13 @@ unfolding OrEnd
 or_end P e None x = x
 or_end P e (Some q) x = x.0
 
+-- what is told by a number is told by none where that is the end
+pub none_at_end : (P : ℕ → Type 0) (e q : ℕ) → q ≤ e → e ≤ q → P q → OrEnd P e None
+unfolding OrEnd
+none_at_end P e q l m x =
+    let is : q ≡ e = omega arith in
+    rw is at x
+
 pub before_end : (P : ℕ → Type 0) (e : ℕ) (r : Option ℕ) (q : ℕ) → r ≡ Some q → OrEnd P e r → P q × (q < e)
 unfolding OrEnd
 before_end P e r q is x = rw is at x

@@ -9,19 +9,19 @@ ghost use Rattle.reading.specs.Finding.{Found};
 use crate::eights::next_where;
 use session::Field;
 
-// The first place from `from` on and before `end` that has v in field f.
-pub fn next_with(s: &[u64], f: Field, v: u64, from: usize, end: usize) -> Option<usize>
-    requires { (words ≤ length s.now) × (size f ≡ object_places) × (from ≤ end) × (end ≤ object_places) }
-    ensures { OrEnd (Found (was s.now) f v from end) end result }
-{
-    next_where(from, end, |i| session::get(s, f, i) == v)
-}
-
-// The same, or `end` if there is none: what docs/ name keeps its result.
-#[tactic(auto, unfolding(crate::specs::Eights::OrEnd))]
+// The first place from `from` on and before `end` that has v in field f, or `end` if there is none.
 pub fn find(s: &[u64], f: Field, v: u64, from: usize, end: usize) -> usize
     requires { (words ≤ length s.now) × (size f ≡ object_places) × (from ≤ end) × (end ≤ object_places) }
     ensures { Found (was s.now) f v from end result }
 {
-    next_with(s, f, v, from, end).unwrap_or(end)
+    next_where(from, end, |i| session::get(s, f, i) == v).unwrap_or(end)
+}
+
+// The same, or nothing if there is none.
+pub fn next_with(s: &[u64], f: Field, v: u64, from: usize, end: usize) -> Option<usize>
+    requires { (words ≤ length s.now) × (size f ≡ object_places) × (from ≤ end) × (end ≤ object_places) }
+    ensures { OrEnd (Found (was s.now) f v from end) end result }
+{
+    let place = find(s, f, v, from, end);
+    if place < end { Some(place) } else { None }
 }

@@ -1,4 +1,4 @@
-// What the rules say of one object or link (Reading.antt), for any handle.
+// What the rules say of one object or link (Reading.antt), for any handle. Internal: callers have shown the length where it is a slice.
 ghost use Rattle.std.specs.Prelude.{◌≡◌, ◌≤◌, length};
 ghost use Rattle.session.specs.Names.{event, most_objects, most_links};
 ghost use Rattle.session.specs.Table.{read, words};

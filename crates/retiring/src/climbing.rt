@@ -113,26 +113,24 @@ fn mark_task(s: &Memory, fires: &mut Marks, found: Found, h: u64) -> Found
 }
 
 // One walk upwards from task h, which is not live, gives both the steps and the events that fire: as long as the task stood on has
-// no live descendant its event is marked if it waits, and the walk goes on from its creator. Internal, as `mark_task` is.
-pub fn climb(s: &Memory, live: &Marks, fires: &mut Marks, walk: Walk, h: u64) -> Walk
+// no live descendant its event is marked if it waits, and the walk goes on from its creator. The walk is lent, so that the call stands
+// last and takes no stack of its own. Internal, as `mark_task` is.
+pub fn climb(s: &Memory, live: &Marks, fires: &mut Marks, walk: &mut Walk, h: u64)
     requires { Tidy (read s.now) × (1 ≤ h) × (read s.now TaskState h ≤ running → ⊥) × Shows live.now (busy (read s.now))
-        × Climbed (read s.now) fires.old walk.found h × (walk.steps + h ≤ most_objects) }
-    ensures { Walked (was s.now) fires.new walk result h }
+        × Climbed (read s.now) fires.old walk.old.found h × (walk.old.steps + h ≤ most_objects) }
+    ensures { Walked (was s.now) fires.new walk.old walk.new h }
 {
     let busy = live[h as usize] != 0;
     if busy {
-        return walk;
+        return;
     }
-    let found = mark_task(s, fires, walk.found, h);
+    walk.found = mark_task(s, fires, walk.found, h);
     if session::get(s, Field::TaskCreator, h as usize) == 0 {
-        return Walk { found, ..walk };
+        return;
     }
-    let next = Walk {
-        steps: walk.steps + 1,
-        found,
-    };
+    walk.steps += 1;
     match done_creator(s, h) {
-        None => next,
-        Some(c) => climb(s, live, fires, next, c),
+        None => {}
+        Some(c) => climb(s, live, fires, walk, c),
     }
 }

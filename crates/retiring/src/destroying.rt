@@ -100,7 +100,7 @@ fn destroy_block(s: &mut Memory, t: u64, b: u64)
 
 // 8 destroy (caller, object), by its kind: the steps climbed where it is a task, returned with the session, else 0. Internal: callers
 // have shown a sound session and the checks.
-pub fn destroy(s: &mut Memory, caller: u64, h: u64) -> u64
+pub fn destroy_object(s: &mut Memory, caller: u64, h: u64) -> u64
     requires { Holds (sound (read s.old)) × met (destroy_checks (read s.old) caller h) }
     ensures { Made s.old s.new (destroy (was s.old) caller h) (destroy_climbs (was s.old) caller h) result }
 {

@@ -30,7 +30,7 @@ fn fire_output(s: &mut Memory, t: u64, b: u64)
 
 // 12 end (task, block or 0): the steps climbed, returned with the session. Internal: callers have shown a sound session and the
 // checks.
-pub fn end(s: &mut Memory, t: u64, b: u64) -> u64
+pub fn end_task(s: &mut Memory, t: u64, b: u64) -> u64
     requires { Holds (sound (read s.old)) × met (end_checks (read s.old) t b) }
     ensures { Made s.old s.new (end (was s.old) t b) (end_climbs (was s.old) t b) result }
 {

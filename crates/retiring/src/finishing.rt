@@ -96,11 +96,11 @@ fn fire_above(s: &mut Memory, t: u64) -> u64
     let mut live: Marks = [0; names::OBJECT_PLACES];
     ancestors::mark_all(s, &mut live);
     let mut fires: Marks = [0; names::OBJECT_PLACES];
-    let start = Walk {
+    let mut walk = Walk {
         steps: 0,
         found: Found::Nothing,
     };
-    let walk = climb(s, &live, &mut fires, start, t);
+    climb(s, &live, &mut fires, &mut walk, t);
     fire_found(s, &fires, walk.found);
     walk.steps
 }

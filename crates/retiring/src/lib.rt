@@ -30,7 +30,7 @@ pub fn destroy(s: &mut [u64], caller: u64, h: u64) -> u64
     let Some(s) = s.first_chunk_mut::<WORDS>() else {
         unreachable!()
     };
-    destroying::destroy(s, caller, h)
+    destroying::destroy_object(s, caller, h)
 }
 
 // 12 end (task, block or 0): the steps climbed, returned with the session. Internal, as `destroy` is.
@@ -41,5 +41,5 @@ pub fn end(s: &mut [u64], t: u64, b: u64) -> u64
     let Some(s) = s.first_chunk_mut::<WORDS>() else {
         unreachable!()
     };
-    ending::end(s, t, b)
+    ending::end_task(s, t, b)
 }

@@ -15,7 +15,10 @@ fn count_below<F: Fn(u64) -> bool>(end: u64, holds: F) -> u64
 {
     let mut found = 0;
     for i in 0..end {
-        found += u64::from(holds(i));
+        // a branch: few places hold, and a sum would make the code of the test poorer
+        if holds(i) {
+            found += 1;
+        }
     }
     found
 }

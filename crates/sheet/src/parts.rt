@@ -72,8 +72,8 @@ fn part_from(sheet: &[u8], from: Next, memory: &mut Memory, lines: &mut [u8], su
     }
 }
 
-// The same of a session in longer memory, for callers that have shown check 1 to be met and, where they say `sure`, the session to
-// be kept.
+// The same of a session in longer memory. Internal: for callers that have shown check 1 to be met and, where they say `sure`, the
+// session to be kept.
 pub fn run_part_from(
     sheet: &[u8],
     from: Next,

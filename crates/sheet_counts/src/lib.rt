@@ -109,8 +109,8 @@ fn count_records(sheet: &[u8], first: usize, memory: &mut Memory) -> Tally
     with_dropped(memory, records, refused, starts)
 }
 
-// Runs a sheet on a fresh session and counts. Internal: callers have shown that the memory holds a fresh session.
-pub fn count_fresh(sheet: &[u8], memory: &mut Memory) -> Tally
+// Runs a sheet on a fresh session and counts.
+fn count_on_fresh(sheet: &[u8], memory: &mut Memory) -> Tally
     requires { read memory.old ≡ fresh_session }
     ensures counts { result ≡ counts_of sheet.now }
     ensures session { Becomes memory.old memory.new (print_sheet sheet.now fresh_session).session }
@@ -119,6 +119,18 @@ pub fn count_fresh(sheet: &[u8], memory: &mut Memory) -> Tally
         Ok(first) => count_records(sheet, first, memory),
         Err(_) => with_dropped(memory, 1, 1, 0),
     }
+}
+
+// The same in longer memory. Internal: callers have shown the length, and that the memory holds a fresh session.
+pub fn count_fresh(sheet: &[u8], memory: &mut [u64]) -> Tally
+    requires { (words ≤ length memory.old) × (read memory.old ≡ fresh_session) }
+    ensures counts { result ≡ counts_of sheet.now }
+    ensures session { Becomes memory.old memory.new (print_sheet sheet.now fresh_session).session }
+{
+    let Some(session) = memory.first_chunk_mut::<WORDS>() else {
+        unreachable!()
+    };
+    count_on_fresh(sheet, session)
 }
 
 // Runs a sheet from a fresh session, which takes the place of the kept one in memory, and counts. Internal. It takes a slice, as docs/
@@ -132,5 +144,5 @@ pub fn count_sheet(sheet: &[u8], memory: &mut [u64]) -> Tally
         unreachable!()
     };
     session::renew(session);
-    count_fresh(sheet, session)
+    count_on_fresh(sheet, session)
 }

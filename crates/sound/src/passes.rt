@@ -1,4 +1,5 @@
-// A pass over places, in which every place is looked at: the answers are joined by `&`, so that the loop has no branch.
+// A pass over places, in which every place is looked at: the answers are joined by `&`, so that the loop has no branch of its own.
+// Internal: callers have shown that the test may be asked of each place.
 ghost use Rattle.std.specs.Prelude.{◌≡◌, ℕ, ◌<◌, Bool};
 ghost use Rattle.rules.specs.Formula.{Formula, test, Formula.each};
 

@@ -1,4 +1,4 @@
-// The rules about slots and the links that lead to them.
+// The rules about slots and the links that lead to them. Internal: callers have shown the rules before.
 ghost use Rattle.std.specs.Prelude.{◌≡◌, ◌+◌, ◌<◌, ◌≤◌};
 ghost use Rattle.session.specs.Names.{most_objects, most_links, slot_places};
 ghost use Rattle.session.specs.Table.{read};

@@ -1,4 +1,4 @@
-// The rules about tasks.
+// The rules about tasks. Internal: callers have shown the rules before.
 ghost use Rattle.std.specs.Prelude.{◌≡◌, ℕ, ◌+◌, ◌<◌, ◌≤◌};
 ghost use Rattle.session.specs.Names.{most_objects};
 ghost use Rattle.session.specs.Table.{read};

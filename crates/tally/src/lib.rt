@@ -14,6 +14,9 @@ ghost use Rattle.tally.specs.Raise.{sum_to, raise};
 
 use sheet_counts::{Tally, count_sheet};
 
+// The largest number of 64 bits.
+pub const MOST: u64 = u64::MAX;
+
 // Two counts together, no more than the width's largest.
 fn capped(a: u64, b: u64) -> u64
     ensures { result ≡ sum_to a b }

@@ -1,6 +1,6 @@
 -- `library::faltxigor_apply` meets its contract: what `apply` answered, as two numbers (`called`).
 use Rattle.rules.specs.Answer.{answer_told}
-use Rattle.library.specs.Called.{operation, called}
+use Rattle.library.specs.Called.{operation, called, tells_refused, tells_made}
 use Rattle.library.proofs.faltxigor_apply.Goals as goal
 
 pub returns : goal.returns
@@ -8,6 +8,6 @@ returns c =
     let t = c.tell.ensures in
     let call = c.apply in
     let a = c.args in
-    rw (t.refused, t.made)
+    rw (tells_refused call.result _ t.refused, tells_made call.result _ t.made)
     (called a.memory.now call.new.memory (operation a.code a.f0 a.f1 a.f2 a.f3 a.f4) (answer_told call.result)
     call.ensures)

@@ -3,10 +3,10 @@ use Rattle.session.specs.First.{read_first}
 use Rattle.effects.specs.MadeFirst.{made_first}
 use Rattle.retiring.proofs.destroy.Goals as goal
 
-pub destroy-requires : goal.destroy-requires
-destroy-requires c = rw (c.in-Some.ensures.cases.same, read_first c.args.s.now) (c.requires.1, c.requires.2)
+pub destroy_object-requires : goal.destroy_object-requires
+destroy_object-requires c = rw (c.in-Some.ensures.cases.same, read_first c.args.s.now) (c.requires.1, c.requires.2)
 
 pub returns : goal.returns
 returns c =
     let ws = c.args.s.now in
-    made_first ws c.requires.0 (rw (c.in-Some.ensures.cases.same, read_first ws) at c.destroy.ensures)
+    made_first ws c.requires.0 (rw (c.in-Some.ensures.cases.same, read_first ws) at c.destroy_object.ensures)

@@ -3,10 +3,10 @@ use Rattle.session.specs.First.{read_first}
 use Rattle.effects.specs.MadeFirst.{made_first}
 use Rattle.retiring.proofs.end.Goals as goal
 
-pub end-requires : goal.end-requires
-end-requires c = rw (c.in-Some.ensures.cases.same, read_first c.args.s.now) (c.requires.1, c.requires.2)
+pub end_task-requires : goal.end_task-requires
+end_task-requires c = rw (c.in-Some.ensures.cases.same, read_first c.args.s.now) (c.requires.1, c.requires.2)
 
 pub returns : goal.returns
 returns c =
     let ws = c.args.s.now in
-    made_first ws c.requires.0 (rw (c.in-Some.ensures.cases.same, read_first ws) at c.end.ensures)
+    made_first ws c.requires.0 (rw (c.in-Some.ensures.cases.same, read_first ws) at c.end_task.ensures)

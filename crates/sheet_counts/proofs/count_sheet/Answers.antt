@@ -14,5 +14,5 @@ renew-requires c =
 pub returns : goal.returns
 returns c =
     let ws = c.args.memory.now in
-    let w = wrote_then c.renew.ensures c.count_fresh.ensures.session in
-    record { counts = c.count_fresh.ensures.counts; session = wrote_first ws _ _ c.requires.0 (rw c.in-Some.ensures.cases.same at w) }
+    let w = wrote_then c.renew.ensures c.count_on_fresh.ensures.session in
+    record { counts = c.count_on_fresh.ensures.counts; session = wrote_first ws _ _ c.requires.0 (rw c.in-Some.ensures.cases.same at w) }

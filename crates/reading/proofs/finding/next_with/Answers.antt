@@ -1,15 +1,14 @@
--- `reading::finding::next_with` meets its contract: the next place by the test is the first that has v (`first_by`, `found_by`).
-use native.Mathlib.Omega.{arith}
-use borrow.Author.Rules.{rules}
-use Rattle.rules.specs.Formula.{Formula.◌≐◌}
-use Rattle.reading.specs.TestLaws.{equals}
+-- `reading::finding::next_with` meets its contract: `find` tells a place before the end, or the end (`none_at_end`).
 use Rattle.session.specs.Table.{read}
-use Rattle.reading.specs.Holders.{first_by}
-use Rattle.reading.specs.Finding.{found_by}
+use Rattle.reading.specs.Eights.{OrEnd, none_at_end}
+use Rattle.reading.specs.Finding.{Found}
 use Rattle.reading.proofs.finding.next_with.Goals as goal
 
-pub returns : goal.returns
-returns c =
+pub returns-then-place-end : goal.returns-then-place-end
+unfolding OrEnd
+returns-then-place-end c = (c.find-place.ensures, c.if-place-end.true)
+
+pub returns-else-place-end : goal.returns-else-place-end
+returns-else-place-end c =
     let a = c.args in
-    found_by (read a.s.now) a.f a.v a.from a.end c.next_where.result
-    (first_by _ (λ i. read a.s.now a.f i ≐ a.v) a.from a.end c.next_where.result (omega arith) c.next_where.ensures (λ i r e. rw (← equals (read a.s.now a.f i) a.v) (search rules)))
+    none_at_end (Found (read a.s.now) a.f a.v a.from a.end) a.end c.find-place.result c.find-place.ensures.within c.if-place-end.false c.find-place.ensures

@@ -22,9 +22,9 @@ returns-then-busy t c =
     let z = busy_steps s p.0 h p.4.known p.2 b in
     record { fires = climbed-busy s p.0 h p.4.known _ _ p.1 p.4 b; steps = omega arith }
 
-pub mark_task-found-requires : goal.mark_task-found-requires
+pub mark_task-walk-requires : goal.mark_task-walk-requires
 unfolding Shows
-mark_task-found-requires t c =
+mark_task-walk-requires t c =
     let p = c.requires in
     let h = c.args.h in
     let idle = mark_no _ _ (p.3 h (omega (arith, p.4.known, p.0.frame.few))) (omega arith) in
@@ -37,7 +37,7 @@ returns-then-get-eq0 t c =
     let h = c.args.h in
     let none : s TaskCreator h ≡ 0 = sym c.get.ensures ∙ c.if-get-eq0.true in
     let z = main_steps s p.0 h p.4.known p.2 none in
-    record { fires = rw (creator_none s h none) at c.mark_task-found.ensures; steps = omega arith }
+    record { fires = rw (creator_none s h none) at c.mark_task-walk.ensures; steps = omega arith }
 
 pub returns-in-None : goal.returns-in-None
 unfolding Shows
@@ -50,7 +50,7 @@ returns-in-None t c =
     let some = c.if-get-eq0.false in
     let e = c.get.ensures in
     let z = one-step s p.0 h p.4.known p.2 idle (live_stops s p.0 h p.4.known none) (omega arith) in
-    record { fires = rw none at c.mark_task-found.ensures; steps = omega arith }
+    record { fires = rw none at c.mark_task-walk.ensures; steps = omega arith }
 
 pub climb-requires : goal.climb-requires
 climb-requires t c =
@@ -60,7 +60,7 @@ climb-requires t c =
     let e = creator_told s p.0 h p.4.known _ c.in-Some.ensures in
     let low = done_lower s p.0 h p.4.known p.1 in (
       omega (arith, low, e.0, c.decreases),
-      (p.0, e.2, rw e.1 e.3, p.3, rw e.0 c.mark_task-found.ensures, omega (arith, low, e.0, p.5)),
+      (p.0, e.2, rw e.1 e.3, p.3, rw e.0 c.mark_task-walk.ensures, omega (arith, low, e.0, p.5)),
     )
 
 pub returns-in-Some : goal.returns-in-Some

@@ -1,4 +1,4 @@
--- `retiring::ending::end` meets its contract: the four parts, one behind the other (`wrote_next`), are `end` (`end-parts`); the
+-- `retiring::ending::end_task` meets its contract: the four parts, one behind the other (`wrote_next`), are `end` (`end-parts`); the
 -- first three leave it tidy (`tidy_ending`, `tidy_output_fired`), t not live (`ended-over`), and only what is above t to finish
 -- (`only_above`). Firing changes nothing of the climb (`climbed-fired`).
 use mathlib.Core.Path.{sym, ap, ◌∙◌}
@@ -14,7 +14,7 @@ use Rattle.retiring.specs.RetiringParts.{retirable, ending, output_fired, tidy_o
 use Rattle.retiring.specs.RetiringParts.{end-parts, ended-over}
 use Rattle.retiring.specs.Climb.{only_above, own-ending, own-fired}
 use Rattle.retiring.specs.Steps.{climbed-fired}
-use Rattle.retiring.proofs.ending.end.Goals as goal
+use Rattle.retiring.proofs.ending.end_task.Goals as goal
 
 pub let_go_all-requires : goal.let_go_all-requires
 let_go_all-requires c =

@@ -1,11 +1,11 @@
--- `checks::objects::has_slot` meets its contract: of a task the count decides (`task-slot`), and what is none is an event of a user's.
+-- `checks::handles::has_slot` meets its contract: of a task the count decides (`task-slot`), and what is none is an event of a user's.
 use mathlib.Core.Path.{◌∙◌, sym}
 use mathlib.Core.Logic.{⊎_elim}
 use Rattle.session.specs.Table.{read}
 use Rattle.rules.specs.Bools.{test_lt}
 use Rattle.reading.specs.TestLaws.{yes, no}
 use Rattle.reading.specs.SlotsByKind.{task-slot}
-use Rattle.checks.proofs.objects.has_slot.Goals as goal
+use Rattle.checks.proofs.handles.has_slot.Goals as goal
 
 pub returns-then-is_kind : goal.returns-then-is_kind
 returns-then-is_kind c =

@@ -1,9 +1,9 @@
--- `number::write_number` meets its contract: the bytes of the rest, put from the place on, give what the value's bytes give.
+-- `number::put_groups` meets its contract: the bytes of the rest, put from the place on, give what the value's bytes give.
 use mathlib.Core.Path.{◌≡◌}
 use Prim.Native.Nat.{◌+◌}
 use lib.ListN.{length}
 use Rattle.number.specs.Number.{encode, splice}
-use Rattle.number.proofs.write_number.Given as goal
+use Rattle.number.proofs.put_groups.Given as goal
 
 abbrev pub invariant-loop-rest : goal.invariant-loop-rest
 invariant-loop-rest l =

@@ -1,4 +1,4 @@
--- `retiring::destroying::destroy` meets its contract: by the kind read, each of the four arms is its own law (`destroys_template`
+-- `retiring::destroying::destroy_object` meets its contract: by the kind read, each of the four arms is its own law (`destroys_template`
 -- and the like), and so are the steps (`task_climbs`, `other_climbs`); what they require follows from the sound session and the checks
 -- (`retirable`). A task that is destroyed never ran, and has no child (`unstarted_childless`).
 use mathlib.Core.Path.{◌≡◌, sym, ◌∙◌}
@@ -10,7 +10,7 @@ use Rattle.holding.specs.SoundHolds.{doomed-held, active}
 use Rattle.retiring.specs.RetiringParts.{retirable, destroys_template, destroys_task, destroys_event, destroys_block}
 use Rattle.retiring.specs.RetiringParts.{task_climbs, other_climbs}
 use Rattle.retiring.specs.Children.{unstarted_childless}
-use Rattle.retiring.proofs.destroying.destroy.Goals as goal
+use Rattle.retiring.proofs.destroying.destroy_object.Goals as goal
 
 pub get-requires : goal.get-requires
 get-requires c =

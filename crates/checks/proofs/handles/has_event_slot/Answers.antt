@@ -1,7 +1,7 @@
--- `checks::objects::has_event_slot` meets its contract: the type that is read tells it of an event of a user's (`slot_tested`).
+-- `checks::handles::has_event_slot` meets its contract: the type that is read tells it of an event of a user's (`slot_tested`).
 use Rattle.session.specs.Table.{read}
 use Rattle.checks.specs.UserEvents.{slot_tested}
-use Rattle.checks.proofs.objects.has_event_slot.Goals as goal
+use Rattle.checks.proofs.handles.has_event_slot.Goals as goal
 
 pub returns : goal.returns
 returns c =

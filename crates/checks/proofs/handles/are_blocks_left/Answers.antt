@@ -1,9 +1,9 @@
--- `checks::granting::blocks_remain` meets its contract: the blocks of the slots before j remain, so one that does not decides
+-- `checks::handles::are_blocks_left` meets its contract: the blocks of the slots before j remain, so one that does not decides
 -- against all (`wrong`), and at the count all of them do (`right`).
 use Rattle.checks.specs.Scan.{through-more, through_none}
 use Rattle.reading.specs.TestLaws.{no, right, wrong, yes}
 use native.Mathlib.Omega.{arith}
-use Rattle.checks.proofs.granting.blocks_remain.Goals as goal
+use Rattle.checks.proofs.handles.are_blocks_left.Goals as goal
 
 pub loop-j-init : goal.loop-j-init
 loop-j-init c = through_none _
