@@ -1,8 +1,8 @@
 // The tasks that hold blocks by their slots, for a scan that goes over their holds several times: they are looked for once, and
 // only as far as a scan comes. Internal.
-ghost use Rattle.std.specs.Prelude.{◌≡◌, ◌+◌, ◌*◌, ◌/◌, ◌≤◌, ◌<◌, get_or};
+ghost use Rattle.std.specs.Prelude.{◌≡◌, ◌+◌, ◌*◌, ◌/◌, ◌≤◌, ◌<◌, get_or, length};
 ghost use Rattle.session.specs.Names.{most_objects, slot_places, object_places};
-ghost use Rattle.session.specs.Table.{read};
+ghost use Rattle.session.specs.Table.{read, words};
 ghost use Rattle.session.specs.Lent.{was};
 ghost use Rattle.session.specs.declared.Field.TheVariants.{Objects};
 ghost use Rattle.rules.specs.Formula.{Holds};
@@ -11,7 +11,7 @@ ghost use Rattle.reading.specs.Holders.{Passed};
 ghost use Rattle.checks.specs.HolderList.{Listed, More, is_hold, place_of};
 
 use reading::next_holder;
-use session::{Field, Memory, names};
+use session::{Field, names};
 
 // The handles found so far, in order. Handle 0 is always the first, and the last handle the last of a whole list, as if they were
 // holders.
@@ -41,9 +41,9 @@ impl Holders {
     }
 
     // One holder more, once number q is past the places of those that there are; none if they go up to the last handle.
-    pub fn find_more(&mut self, s: &Memory, q: usize)
+    pub fn find_more(&mut self, s: &[u64], q: usize)
         requires { (read s.now Objects 0 ≤ most_objects) × Listed (read s.now) self.old.handles self.old.found
-            × (q ≤ 16 * self.old.found) }
+            × (q ≤ 16 * self.old.found) × (words ≤ length s.now) }
         ensures { More (was s.now) self.old.handles self.new.handles self.old.found self.new.found q }
     {
         if q < 16 * self.found {
@@ -69,8 +69,9 @@ impl Holders {
     }
 
     // The number after q of the place at which the next hold may be: the holder's next slot, or the first one of the next holder.
-    pub fn next_place(&self, s: &Memory, q: usize) -> usize
-        requires { Holds (sound (read s.now)) × Listed (read s.now) self.now.handles self.now.found × (q < 16 * self.now.found) }
+    pub fn next_place(&self, s: &[u64], q: usize) -> usize
+        requires { Holds (sound (read s.now)) × Listed (read s.now) self.now.handles self.now.found × (q < 16 * self.now.found)
+            × (words ≤ length s.now) }
         ensures { (result ≤ 16 * self.now.found)
             × Passed (λ i. is_hold (was s.now) (place_of self.now.handles i)) (q + 1) result }
     {

@@ -1,5 +1,5 @@
-// The rule that holds do not conflict. Internal: callers have shown the rules before. `Holders` stays a clause: what it says of the row grows with each slot, so a type that carried
-// it would have the slot in every contract all the same.
+// The rule that holds do not conflict. Internal: callers have shown the rules before. `Holders` stays a clause: what it says of the row
+// grows with each slot, so a type that carried it would have the slot in every contract all the same.
 ghost use Rattle.std.specs.Prelude.{◌≡◌, ℕ, ◌+◌, ◌*◌, ◌<◌, ◌≤◌, get_or};
 ghost use Rattle.session.specs.Table.{read};
 ghost use Rattle.session.specs.Lent.{was};

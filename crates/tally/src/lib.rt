@@ -21,7 +21,7 @@ pub const MOST: u64 = u64::MAX;
 fn capped(a: u64, b: u64) -> u64
     ensures { result ≡ sum_to a b }
 {
-    a.saturating_add(b)
+    a.checked_add(b).unwrap_or(MOST)
 }
 
 // A tally raised by a sheet's four counts.

@@ -64,7 +64,7 @@ bounds-task-j c =
     let f = few _ c.args.t c.requires.0 c.requires.1 in omega arith
 
 pub find_more-requires : goal.find_more-requires
-find_more-requires c = (few_objects _ c.requires.0, c.loop-q.invariant.0, c.next_place-q.ensures.0)
+find_more-requires c = (few_objects _ c.requires.0, c.loop-q.invariant.0, c.next_place-q.ensures.0, omega arith)
 
 pub loop-q-preserved : goal.loop-q-preserved
 loop-q-preserved c =
